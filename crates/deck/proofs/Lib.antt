@@ -1,0 +1,17 @@
+pub mod BelowLaws
+pub mod AnswerLaws
+pub mod TrailerLaws
+pub mod RowLaws
+pub mod ListLaws
+pub mod MatchLaws
+pub mod TableLaws
+pub mod CaseLaws
+pub mod AcceptedLaws
+pub mod DeckLaws
+pub mod FormLaws
+pub mod TagLaws
+pub mod SoundLaws
+pub mod SearchLaws
+pub mod SameLaws
+pub mod ReadLaws
+pub mod InjectedLaws

@@ -1,0 +1,16 @@
+pub mod Refusal
+pub mod Numbers
+pub mod Word
+pub mod Below
+pub mod Trailer
+pub mod Answer
+pub mod Parts
+pub mod Rows
+pub mod Forms
+pub mod Records
+pub mod Deck
+pub mod Content
+pub mod Sound
+pub mod Exprs
+pub mod Reads
+pub mod Same

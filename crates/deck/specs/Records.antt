@@ -1,0 +1,142 @@
+-- The tests 5, 6 and 7 of a record of each part.
+use Prim.Native.Nat.{ℕ, _-_}
+use mathlib.Core.List.{List, [], _∷_}
+use mathlib.Core.Bool.{Bool, _&&_, _||_}
+use lib.Dec.{eqb, ltb}
+use lib.ListN.{getD}
+use Rattle.deck.specs.declared.refusal.Refusal.the-variants.{BadField, BadOrder, ForwardOperand}
+use Rattle.deck.specs.declared.DeckAnswer.{DeckAnswer}
+use Rattle.deck.specs.declared.DeckAnswer.the-variants.{Accepted}
+use Rattle.deck.specs.declared.forms.Kind.the-variants.{Zero, Flag, Class, RealClass, Role, RoleWord, Concept, Any}
+use Rattle.deck.specs.declared.forms.Form.{Form}
+use Rattle.deck.specs.declared.forms.Form.the-variants.{Fields, ListField, FieldList, Unknown}
+use Rattle.deck.specs.Answer.{unless, orElse, firstRefusal, trailerAnswer}
+use Rattle.deck.specs.Trailer.{partCount}
+use Rattle.deck.specs.Parts.{partWord}
+use Rattle.deck.specs.Rows.{rowShape, rowRises, rowHas}
+use Rattle.deck.specs.Forms.{formShape}
+
+-- class: 1 if unsatisfiable else 0; row start; row count
+abbrev pub classShape : List ℕ → ℕ → Bool
+classShape s k = formShape s 0 k 0 0 (FieldList Flag Class)
+
+-- the row rises, and a satisfiable class is in its own row
+abbrev pub classOrder : List ℕ → ℕ → Bool
+classOrder s k =
+    rowRises s (partWord s 0 k 1) (partWord s 0 k 2) && (eqb (partWord s 0 k 0) 1 || rowHas s (partWord s 0 k 1) (partWord s 0 k 2) k)
+
+unfoldable pub classAnswer : List ℕ → ℕ → DeckAnswer
+classAnswer s k = unless (classShape s k) BadField (unless (classOrder s k) BadOrder Accepted)
+
+-- role: sub-role row start, count; range row start, count
+abbrev pub roleShape : List ℕ → ℕ → Bool
+roleShape s k =
+    rowShape s (partWord s 1 k 0) (partWord s 1 k 1) (partCount s 1) && rowShape s (partWord s 1 k 2) (partWord s 1 k 3) (partCount s 0)
+
+-- the rows rise, and a role is in its own sub-role row
+abbrev pub roleOrder : List ℕ → ℕ → Bool
+roleOrder s k =
+    rowRises s (partWord s 1 k 0) (partWord s 1 k 1)
+    && (rowRises s (partWord s 1 k 2) (partWord s 1 k 3) && rowHas s (partWord s 1 k 0) (partWord s 1 k 1) k)
+
+unfoldable pub roleAnswer : List ℕ → ℕ → DeckAnswer
+roleAnswer s k = unless (roleShape s k) BadField (unless (roleOrder s k) BadOrder Accepted)
+
+-- injected: class y, role r, class q, with q real
+abbrev pub injectedShape : List ℕ → ℕ → Bool
+injectedShape s k = formShape s 2 k 0 0 (Fields Class Role RealClass)
+
+-- (y, r) is above that of the record before
+abbrev pub injectedOrder : List ℕ → ℕ → Bool
+injectedOrder s k =
+    eqb k 0
+    || (ltb (partWord s 2 (k - 1) 0) (partWord s 2 k 0)
+    || (eqb (partWord s 2 (k - 1) 0) (partWord s 2 k 0) && ltb (partWord s 2 (k - 1) 1) (partWord s 2 k 1)))
+
+unfoldable pub injectedAnswer : List ℕ → ℕ → DeckAnswer
+injectedAnswer s k = unless (injectedShape s k) BadField (unless (injectedOrder s k) BadOrder Accepted)
+
+-- the fields of a concept, by its tag
+abbrev pub conceptForms : List Form
+conceptForms =
+    Fields Zero Zero Zero ∷  -- 0 Top
+    Fields Zero Zero Zero ∷  -- 1 Bot
+    Fields Class Zero Zero ∷  -- 2 Atomic
+    Fields Any Zero Zero ∷  -- 3 Nominal
+    Fields RoleWord Zero Zero ∷  -- 4 SelfRestriction
+    Fields Concept Zero Zero ∷  -- 5 Not
+    ListField Concept Zero ∷  -- 6 And
+    ListField Concept Zero ∷  -- 7 Or
+    Fields RoleWord Concept Zero ∷  -- 8 Some
+    Fields RoleWord Concept Zero ∷  -- 9 All
+    Fields Any RoleWord Concept ∷  -- 10 Min
+    Fields Any RoleWord Concept ∷  -- 11 Max
+    []
+
+abbrev pub conceptForm : ℕ → Form
+conceptForm tag = getD conceptForms tag Unknown
+
+-- tag and three fields; operands are below the concept
+unfoldable pub conceptAnswer : List ℕ → ℕ → DeckAnswer
+conceptAnswer s k =
+    unless (formShape s 3 k 1 (partCount s 3) (conceptForm (partWord s 3 k 0))) BadField
+    (unless (formShape s 3 k 1 k (conceptForm (partWord s 3 k 0))) ForwardOperand
+    Accepted)
+
+-- the fields of an axiom, by its tag
+abbrev pub axiomForms : List Form
+axiomForms =
+    Fields Concept Concept Zero ∷  -- 0 SubClassOf
+    ListField Concept Zero ∷  -- 1 EquivalentClasses
+    ListField Concept Zero ∷  -- 2 DisjointClasses
+    FieldList Class Concept ∷  -- 3 DisjointUnion
+    Fields RoleWord RoleWord Zero ∷  -- 4 SubObjectPropertyOf with a role
+    ListField RoleWord RoleWord ∷  -- 5 SubObjectPropertyOf with a chain
+    ListField RoleWord Zero ∷  -- 6 EquivalentObjectProperties
+    ListField RoleWord Zero ∷  -- 7 DisjointObjectProperties
+    Fields RoleWord RoleWord Zero ∷  -- 8 InverseObjectProperties
+    Fields RoleWord Concept Zero ∷  -- 9 ObjectPropertyDomain
+    Fields RoleWord Concept Zero ∷  -- 10 ObjectPropertyRange
+    Fields RoleWord Zero Zero ∷  -- 11 TransitiveRole
+    Fields RoleWord Zero Zero ∷  -- 12 SymmetricRole
+    Fields RoleWord Zero Zero ∷  -- 13 AsymmetricRole
+    Fields RoleWord Zero Zero ∷  -- 14 ReflexiveRole
+    Fields RoleWord Zero Zero ∷  -- 15 IrreflexiveRole
+    Fields RoleWord Zero Zero ∷  -- 16 FunctionalRole
+    Fields RoleWord Zero Zero ∷  -- 17 InverseFunctionalRole
+    Fields Concept Any Zero ∷  -- 18 ClassAssertion
+    Fields RoleWord Any Any ∷  -- 19 ObjectPropertyAssertion
+    Fields RoleWord Any Any ∷  -- 20 NegativeObjectPropertyAssertion
+    ListField Any Zero ∷  -- 21 SameIndividual
+    ListField Any Zero ∷  -- 22 DifferentIndividuals
+    Fields Class Zero Zero ∷  -- 23 declaration of a class
+    Fields Role Zero Zero ∷  -- 24 declaration of a role
+    Fields Any Zero Zero ∷  -- 25 declaration of an individual
+    []
+
+abbrev pub axiomForm : ℕ → Form
+axiomForm tag = getD axiomForms tag Unknown
+
+unfoldable pub axiomAnswer : List ℕ → ℕ → DeckAnswer
+axiomAnswer s k = unless (formShape s 4 k 1 (partCount s 3) (axiomForm (partWord s 4 k 0))) BadField Accepted
+
+-- fact: class, role, class
+abbrev pub factShape : List ℕ → ℕ → Bool
+factShape s k = formShape s 5 k 0 0 (Fields Class Role Class)
+
+unfoldable pub factAnswer : List ℕ → ℕ → DeckAnswer
+factAnswer s k = unless (factShape s k) BadField Accepted
+
+-- the answer for record k of part p, of the six parts of records
+abbrev pub recordAnswers : List ℕ → List (ℕ → DeckAnswer)
+recordAnswers s = classAnswer s ∷ roleAnswer s ∷ injectedAnswer s ∷ conceptAnswer s ∷ axiomAnswer s ∷ factAnswer s ∷ []
+
+unfoldable pub recordAnswer : List ℕ → ℕ → ℕ → DeckAnswer
+recordAnswer s p = getD (recordAnswers s) p (λ k. Accepted)
+
+unfoldable pub partAnswer : List ℕ → ℕ → DeckAnswer
+partAnswer s p = firstRefusal (recordAnswer s p) (partCount s p)
+
+-- the tests 1 to 4; then the records in part order, each tested for 5, 6, 7
+unfoldable pub deckAnswer : List ℕ → DeckAnswer
+deckAnswer s = orElse (trailerAnswer s) (firstRefusal (partAnswer s) 6)

@@ -1,0 +1,80 @@
+-- `test_deck::runs::stepped` is safe and ends. Assumes nothing.
+use mathlib.Core.Path.{_≡_}
+use Prim.Native.Nat.{_-_, _≤_}
+use lib.ListN.{length}
+use borrow.Author.Needs.{needs}
+use Rattle.test_deck.proofs.runs.stepped.Statement.{statement}
+use Rattle.test_deck.proofs.runs.stepped.Tie as tie
+
+abbrev Inv-loop : tie.InvT-loop
+Inv-loop «data» read room₀ made count width i₀ due₀ room i due = (i ≤ count) × (due ≤ width) × (length room ≡ length room₀)
+
+abbrev μ-loop : tie.MeasureT-loop
+μ-loop «data» read room₀ made count width i₀ due₀ room i due = count - i
+
+loop-holds : tie.Need-loop-holds Inv-loop μ-loop
+loop-holds c = search needs
+
+add-word-or-0 : tie.Need-add-word-or-0 Inv-loop μ-loop
+add-word-or-0 c = search needs
+
+sub-word-or-0 : tie.Need-sub-word-or-0 Inv-loop μ-loop
+sub-word-or-0 c = search needs
+
+word-or-0-requires : tie.Need-word-or-0-requires Inv-loop μ-loop
+word-or-0-requires c κs = search needs
+
+add-put : tie.Need-add-put Inv-loop μ-loop
+add-put c = search needs
+
+add-word-or-0-2 : tie.Need-add-word-or-0-2 Inv-loop μ-loop
+add-word-or-0-2 c = search needs
+
+word-or-0-requires-2 : tie.Need-word-or-0-requires-2 Inv-loop μ-loop
+word-or-0-requires-2 c κs = search needs
+
+wrapping-add-u32-requires : tie.Need-wrapping-add-u32-requires Inv-loop μ-loop
+wrapping-add-u32-requires c κs = search needs
+
+put-requires : tie.Need-put-requires Inv-loop μ-loop
+put-requires c κs = search needs
+
+next-due-requires : tie.Need-next-due-requires Inv-loop μ-loop
+next-due-requires c κs = search needs
+
+add-i : tie.Need-add-i Inv-loop μ-loop
+add-i c = search needs
+
+loop-less : tie.Need-loop-less Inv-loop μ-loop
+loop-less c = search needs
+
+loop-again : tie.Need-loop-again Inv-loop μ-loop
+loop-again c = search needs
+
+same-length : tie.Need-same-length Inv-loop μ-loop
+same-length c = search needs
+
+returns : tie.Need-returns Inv-loop μ-loop
+returns c = search needs
+
+pub stepped-spec : {M : Type 1} → statement M
+stepped-spec =
+    tie.close
+    (tie.spec
+    Inv-loop
+    μ-loop
+    loop-holds
+    add-word-or-0
+    sub-word-or-0
+    word-or-0-requires
+    add-put
+    add-word-or-0-2
+    word-or-0-requires-2
+    wrapping-add-u32-requires
+    put-requires
+    next-due-requires
+    add-i
+    loop-less
+    loop-again
+    same-length
+    returns)

@@ -1,0 +1,134 @@
+// Times the check of the largest legal deck against one bare pass over its words.
+// All seven counts are at their limits, and rows, operand lists and axiom lists together name each list word once.
+#include <stdint.h>
+#include <stdio.h>
+#include <stdlib.h>
+#include <time.h>
+
+// libbench_deck.a: a slice is a pointer and a length.
+extern uint32_t check_deck_number(const uint8_t *deck, size_t length);
+extern uint32_t sum_words(const uint8_t *deck, size_t length);
+
+enum { N = 4096, R = 1024, INJECTED = 4096, C = 16384, A = 16384, FACTS = 16384, L = 262144 };
+enum { ROW = 16, OPERANDS = 8, MEMBERS = 12 };
+enum { BODY = N * 3 + R * 4 + INJECTED * 3 + C * 4 + A * 4 + FACTS * 3 + L, WORDS = BODY + 18 };
+
+static uint32_t words[WORDS], lists[L], *out, used;
+
+static void put4(uint32_t a, uint32_t b, uint32_t c, uint32_t d) {
+    *out++ = a, *out++ = b, *out++ = c, *out++ = d;
+}
+
+static void put3(uint32_t a, uint32_t b, uint32_t c) { *out++ = a, *out++ = b, *out++ = c; }
+
+// A row of ROW numbers below `top` around k. Answers its start.
+static uint32_t row(uint32_t k, uint32_t top) {
+    uint32_t start = used, first = k < ROW / 2 ? 0 : k - ROW / 2;
+    if (first > top - ROW) first = top - ROW;
+    for (uint32_t j = 0; j < ROW; j++) lists[used++] = first + j;
+    return start;
+}
+
+// A list of numbers below `top`. Answers its start.
+static uint32_t list(uint32_t k, uint32_t count, uint32_t top) {
+    uint32_t start = used;
+    for (uint32_t j = 0; j < count; j++) lists[used++] = (k * 7919 + j * 104729) % top;
+    return start;
+}
+
+static void concept(uint32_t k) {
+    uint32_t body = k ? k * k % 7919 % k : 0, word = k % (2 * R);
+    if (k % 2) {
+        put4(k % 4 == 1 ? 6 : 7, list(k, OPERANDS, k), OPERANDS, 0);
+        return;
+    }
+    switch (k ? 2 + k / 2 % 8 : 0) {
+    case 0: put4(0, 0, 0, 0); break;
+    case 2: put4(2, k % N, 0, 0); break;
+    case 3: put4(3, k, 0, 0); break;
+    case 4: put4(4, word, 0, 0); break;
+    case 5: put4(5, body, 0, 0); break;
+    case 6: put4(8, word, body, 0); break;
+    case 7: put4(9, word, body, 0); break;
+    case 8: put4(10, k, word, body); break;
+    default: put4(11, k, word, body);
+    }
+}
+
+static void listed_axiom(uint32_t k) {
+    static const uint32_t tags[8] = {1, 2, 3, 5, 6, 7, 21, 22};
+    uint32_t tag = tags[k / 2 % 8];
+    uint32_t start = list(k, MEMBERS, tag < 4 ? C : tag < 8 ? 2 * R : L);
+    if (tag == 3) put4(3, k % N, start, MEMBERS);
+    else put4(tag, start, MEMBERS, tag == 5 ? k % (2 * R) : 0);
+}
+
+static void plain_axiom(uint32_t k) {
+    static const uint32_t tags[18] = {0, 4, 8, 9, 10, 11, 12, 13, 14, 15, 16, 17, 18, 19, 20, 23, 24, 25};
+    uint32_t tag = tags[k / 2 % 18], word = k % (2 * R), concept = k % C;
+    switch (tag) {
+    case 0: put4(0, concept, C - 1 - concept, 0); break;
+    case 4: case 8: put4(tag, word, 2 * R - 1 - word, 0); break;
+    case 9: case 10: put4(tag, word, concept, 0); break;
+    case 18: put4(18, concept, k, 0); break;
+    case 19: case 20: put4(tag, word, k, k + 1); break;
+    case 23: put4(23, k % N, 0, 0); break;
+    case 24: put4(24, k % R, 0, 0); break;
+    case 25: put4(25, k, 0, 0); break;
+    default: put4(tag, word, 0, 0);
+    }
+}
+
+static void trailer(void) {
+    static const uint32_t counts[7] = {N, R, INJECTED, C, A, FACTS, L}, widths[7] = {3, 4, 3, 4, 4, 3, 1};
+    uint32_t start = 0;
+    put3(1, N, 0);
+    for (int p = 0; p < 7; p++) {
+        *out++ = counts[p], *out++ = start;
+        start += counts[p] * widths[p];
+    }
+    *out++ = start;
+}
+
+static void make_deck(void) {
+    out = words;
+    for (uint32_t k = 0; k < N; k++) put3(0, row(k, N), ROW);
+    for (uint32_t k = 0; k < R; k++) {
+        uint32_t subs = row(k, R);
+        put4(subs, ROW, row(k * 3, N), ROW);
+    }
+    for (uint32_t k = 0; k < INJECTED; k++) put3(k, k % R, N - 1 - k);
+    for (uint32_t k = 0; k < C; k++) concept(k);
+    for (uint32_t k = 0; k < A; k++) k % 2 ? plain_axiom(k) : listed_axiom(k);
+    for (uint32_t k = 0; k < FACTS; k++) put3(k % N, k % R, k * 7 % N);
+    if (used != L) exit(2);
+    for (uint32_t k = 0; k < L; k++) *out++ = lists[k];
+    trailer();
+    if (out != words + WORDS) exit(2);
+}
+
+static double now(void) {
+    struct timespec t;
+    clock_gettime(CLOCK_MONOTONIC, &t);
+    return t.tv_sec * 1e6 + t.tv_nsec / 1e3;
+}
+
+int main(void) {
+    make_deck();
+    const uint8_t *deck = (const uint8_t *)words;
+    uint32_t answer = check_deck_number(deck, sizeof words), sum = 0, own = 0;
+    for (size_t k = 0; k < WORDS; k++) own += words[k];
+    double check = 1e12, pass = 1e12;
+    for (int turn = 0; turn < 300; turn++) {
+        double a = now();
+        answer |= check_deck_number(deck, sizeof words);
+        double b = now();
+        sum = sum_words(deck, sizeof words);
+        double c = now();
+        if (b - a < check) check = b - a;
+        if (c - b < pass) pass = c - b;
+    }
+    printf("deck of %d words: answer %u, sum %s\n", WORDS, answer, sum == own ? "as in C" : "WRONG");
+    printf("check %.1f us, sum %.1f us, ratio %.2f\n", check, pass, check / pass);
+    return answer != 0 || sum != own;
+}
