@@ -1,4 +1,5 @@
-// Times the check of the largest legal deck against one bare pass over its words.
+// Times the check of the largest legal deck against one bare pass over its words, summed two ways:
+// sum_words of libbench_deck.a, which the compiler vectorises, and a loop in C that adds a word at a time.
 // All seven counts are at their limits, and rows, operand lists and axiom lists together name each list word once.
 #include <stdint.h>
 #include <stdio.h>
@@ -107,28 +108,38 @@ static void make_deck(void) {
     if (out != words + WORDS) exit(2);
 }
 
+__attribute__((noinline, optimize("no-tree-vectorize"))) static uint32_t sum_plain(const uint32_t *word, size_t count) {
+    uint32_t sum = 0;
+    for (size_t k = 0; k < count; k++) sum += word[k];
+    return sum;
+}
+
 static double now(void) {
     struct timespec t;
     clock_gettime(CLOCK_MONOTONIC, &t);
     return t.tv_sec * 1e6 + t.tv_nsec / 1e3;
 }
 
+static double least(double a, double b) { return a < b ? a : b; }
+
 int main(void) {
     make_deck();
     const uint8_t *deck = (const uint8_t *)words;
-    uint32_t answer = check_deck_number(deck, sizeof words), sum = 0, own = 0;
-    for (size_t k = 0; k < WORDS; k++) own += words[k];
-    double check = 1e12, pass = 1e12;
-    for (int turn = 0; turn < 300; turn++) {
+    uint32_t answer = 0, sum = 0, plain_sum = 0;
+    double check = 1e12, vector = 1e12, plain = 1e12;
+    for (int turn = 0; turn < 500; turn++) {
         double a = now();
         answer |= check_deck_number(deck, sizeof words);
         double b = now();
         sum = sum_words(deck, sizeof words);
         double c = now();
-        if (b - a < check) check = b - a;
-        if (c - b < pass) pass = c - b;
+        plain_sum = sum_plain(words, WORDS);
+        double d = now();
+        check = least(check, b - a), vector = least(vector, c - b), plain = least(plain, d - c);
     }
-    printf("deck of %d words: answer %u, sum %s\n", WORDS, answer, sum == own ? "as in C" : "WRONG");
-    printf("check %.1f us, sum %.1f us, ratio %.2f\n", check, pass, check / pass);
-    return answer != 0 || sum != own;
+    printf("deck of %d words: answer %u, sums %s\n", WORDS, answer, sum == plain_sum ? "agree" : "DIFFER");
+    printf("check              %7.1f us\n", check);
+    printf("sum, vectorised    %7.1f us, ratio %.2f\n", vector, check / vector);
+    printf("sum, word by word  %7.1f us, ratio %.2f\n", plain, check / plain);
+    return answer != 0 || sum != plain_sum;
 }

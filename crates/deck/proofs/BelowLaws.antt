@@ -17,9 +17,13 @@ pub and-right : (a b : Bool) → a && b ≡ true → b ≡ true
 and-right true b h = h
 and-right false b h = cc
 
-and-false : (a b : Bool) → b ≡ false → a && b ≡ false
+pub and-false : (a b : Bool) → b ≡ false → a && b ≡ false
 and-false true b h = h
 and-false false b h = refl
+
+pub and-true : (a b : Bool) → b ≡ true → a && b ≡ a
+and-true true b h = h
+and-true false b h = refl
 
 or-true : (a b : Bool) → b ≡ true → a || b ≡ true
 or-true true b h = refl
@@ -29,6 +33,11 @@ module _ (p : ℕ → Bool) where
   pub all-none : allBelow p 0 ≡ true
   unfolding allBelow
   all-none = refl
+
+  -- one more number is tested
+  pub all-next : (i : ℕ) → allBelow p (i + 1) ≡ allBelow p i && p i
+  unfolding allBelow
+  all-next i = rw add-one
 
   -- one more number passes
   pub all-more : (i : ℕ) → allBelow p i ≡ true → p i ≡ true → allBelow p (i + 1) ≡ true

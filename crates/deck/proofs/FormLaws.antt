@@ -1,11 +1,12 @@
 -- What the tests of rows and forms say: numbers and list words in range.
 -- Assumes nothing.
-use mathlib.Core.Path.{_≡_, refl, sym}
+use mathlib.Core.Path.{_≡_, refl, sym, _∙_}
 use mathlib.Core.Bool.{Bool, true, false, _&&_}
 use mathlib.Core.List.{List}
 use Prim.Native.Nat.{ℕ, _+_, _-_, _<_, _≤_}
 use native.Mathlib.Omega.{arith}
 use borrow.Author.Tests.{ltb-true, leb-true, lt-ltb}
+use lib.Dec.{ltb}
 use lib.ListN.{length}
 use Rattle.deck.specs.declared.rows.Span.{Span}
 use Rattle.deck.specs.declared.forms.Kind.{Kind}
@@ -92,6 +93,23 @@ module _ (s : List ℕ) (c d : ℕ) (l : c ≤ d) where
       both (fits s c x (partWord s p k f)) (rowShape s (partWord s p k (f + 1)) (partWord s p k (f + 2)) (boundOf (countsOf s) c e)) _ _
       (fits-more x (partWord s p k f)) (row-more s (partWord s p k (f + 1)) (partWord s p k (f + 2)) _ _ (bound-more e)) h
   form-more p k f Unknown h = h
+
+-- three words, tested against a form by counts n; of the fields of a record it is the record's test
+abbrev pub formTest : List ℕ → Counts → ℕ → Form → ℕ → ℕ → ℕ → Bool
+formTest s n c (Fields a b e) x y z = ltb x (boundOf n c a) && (ltb y (boundOf n c b) && ltb z (boundOf n c e))
+formTest s n c (ListField e a) x y z = rowShape s x y (boundOf n c e) && ltb z (boundOf n c a)
+formTest s n c (FieldList a e) x y z = ltb x (boundOf n c a) && rowShape s y z (boundOf n c e)
+formTest s n c Unknown x y z = false
+
+test-shape : (s : List ℕ) (c p k f : ℕ) (form : Form) → formTest s (countsOf s) c form (partWord s p k f) (partWord s p k (f + 1)) (partWord s p k (f + 2)) ≡ formShape s p k f c form
+test-shape s c p k f (Fields a b e) = refl
+test-shape s c p k f (ListField e a) = refl
+test-shape s c p k f (FieldList a e) = refl
+test-shape s c p k f Unknown = refl
+
+pub tested : (s : List ℕ) (n : Counts) (c p k f : ℕ) (form F : Form) (x y z : ℕ) (r : Bool) → n ≡ countsOf s → form ≡ F
+    → x ≡ partWord s p k f → y ≡ partWord s p k (f + 1) → z ≡ partWord s p k (f + 2) → r ≡ formTest s n c F x y z → r ≡ formShape s p k f c form
+tested s n c p k f form F x y z r en ef ex ey ez h = h ∙ rw (en, ← ef, ex, ey, ez) (test-shape s c p k f form)
 
 module _ (s : List ℕ) (c : ℕ) where
   field-fits : (kind : Kind) (w : ℕ) → fits s c kind w ≡ true → w < boundOf (countsIn (deckOf s)) c kind

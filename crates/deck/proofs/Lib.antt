@@ -1,8 +1,8 @@
 pub mod BelowLaws
 pub mod AnswerLaws
+pub mod WordLaws
 pub mod TrailerLaws
 pub mod RowLaws
-pub mod ListLaws
 pub mod MatchLaws
 pub mod TableLaws
 pub mod CaseLaws

@@ -1,12 +1,10 @@
-// What the fields of a record hold.
+// What the fields of a record hold: the kinds and forms that the definitions name, and the tests of
+// three fields by what words of their kinds are below.
 ghost use mathlib.Core.Path.{_≡_};
-ghost use Prim.Native.Nat.{_+_, _<_, _≤_};
+ghost use mathlib.Core.Bool.{_&&_};
+ghost use lib.Dec.{ltb};
 ghost use Rattle.deck.specs.Answer.{Framed};
-ghost use Rattle.deck.specs.Trailer.{partCount, widthOf};
-ghost use Rattle.deck.specs.Parts.{partWord};
 ghost use Rattle.deck.specs.Rows.{rowShape};
-ghost use Rattle.deck.specs.Forms.{boundOf, countsOf, fits, formShape};
-use crate::parts;
 use crate::rows;
 
 // What a field holds: nothing, a flag, a number of something, or any word.
@@ -29,80 +27,42 @@ pub enum Form {
     Unknown,
 }
 
-// What a word of a kind is below.
-fn bound(deck: &[u8], concepts: usize, kind: Kind) -> usize
-    requires { ⌜ Framed (now deck) ⌝ }
-    ensures { λ r. ⌜ r ≡ boundOf (countsOf (now (deck .entry))) concepts kind ⌝ }
+// What a word that must be 0 is below, and what any word is below.
+pub const ZERO: usize = 1;
+
+pub const ANY: usize = 4294967296;
+
+// Whether three fields are below their bounds.
+pub fn fields_fit(x: u32, y: u32, z: u32, a: usize, b: usize, c: usize) -> bool
+    ensures { λ r. ⌜ r ≡ ltb x a && (ltb y b && ltb z c) ⌝ }
 {
-    match kind {
-        Kind::Zero => 1,
-        Kind::Flag => 2,
-        Kind::Class => parts::count(deck, 0),
-        Kind::RealClass => parts::real(deck),
-        Kind::Role => parts::count(deck, 1),
-        Kind::RoleWord => 2 * parts::count(deck, 1),
-        Kind::Concept => concepts,
-        Kind::Any => 4294967296,
+    if a <= x as usize {
+        return false;
     }
-}
-
-// Whether field f of record k of part p is a word of the kind.
-fn field_fits(deck: &[u8], p: usize, k: usize, f: usize, concepts: usize, kind: Kind) -> bool
-    requires { ⌜ Framed (now deck) ⌝ }
-    requires { ⌜ p < 7 ⌝ }
-    requires { ⌜ k < partCount (now deck) p ⌝ }
-    requires { ⌜ f < widthOf p ⌝ }
-    ensures { λ r. ⌜ r ≡ fits (now (deck .entry)) concepts kind (partWord (now (deck .entry)) p k f) ⌝ }
-{
-    (parts::part_word(deck, p, k, f) as usize) < bound(deck, concepts, kind)
-}
-
-// Whether fields f and f + 1 of record k of part p are a list of words of the kind.
-fn list_fits(deck: &[u8], p: usize, k: usize, f: usize, concepts: usize, kind: Kind) -> bool
-    requires { ⌜ Framed (now deck) ⌝ }
-    requires { ⌜ p < 7 ⌝ }
-    requires { ⌜ k < partCount (now deck) p ⌝ }
-    requires { ⌜ f + 1 < widthOf p ⌝ }
-    ensures { λ r. ⌜ r ≡ rowShape (now (deck .entry)) (partWord (now (deck .entry)) p k f) (partWord (now (deck .entry)) p k (f + 1)) (boundOf (countsOf (now (deck .entry))) concepts kind) ⌝ }
-{
-    rows::row_shape(
-        deck,
-        parts::part_word(deck, p, k, f),
-        parts::part_word(deck, p, k, f + 1),
-        bound(deck, concepts, kind),
-    )
-}
-
-// Whether the three fields from field f of record k of part p are of the form.
-pub fn form_shape(deck: &[u8], p: usize, k: usize, f: usize, concepts: usize, form: Form) -> bool
-    requires { ⌜ Framed (now deck) ⌝ }
-    requires { ⌜ p < 7 ⌝ }
-    requires { ⌜ k < partCount (now deck) p ⌝ }
-    requires { ⌜ f + 2 < widthOf p ⌝ }
-    ensures { λ r. ⌜ r ≡ formShape (now (deck .entry)) p k f concepts form ⌝ }
-{
-    match form {
-        Form::Fields(x, y, z) => {
-            if !field_fits(deck, p, k, f, concepts, x) {
-                return false;
-            }
-            if !field_fits(deck, p, k, f + 1, concepts, y) {
-                return false;
-            }
-            field_fits(deck, p, k, f + 2, concepts, z)
-        }
-        Form::ListField(e, x) => {
-            if !list_fits(deck, p, k, f, concepts, e) {
-                return false;
-            }
-            field_fits(deck, p, k, f + 2, concepts, x)
-        }
-        Form::FieldList(x, e) => {
-            if !field_fits(deck, p, k, f, concepts, x) {
-                return false;
-            }
-            list_fits(deck, p, k, f + 1, concepts, e)
-        }
-        Form::Unknown => false,
+    if b <= y as usize {
+        return false;
     }
+    (z as usize) < c
+}
+
+// Whether a list's words, and the field after the list, are below their bounds.
+pub fn list_field_fits(deck: &[u8], start: u32, count: u32, z: u32, e: usize, c: usize) -> bool
+    requires { ⌜ Framed (now deck) ⌝ }
+    ensures { λ r. ⌜ r ≡ rowShape (now (deck .entry)) start count e && ltb z c ⌝ }
+{
+    if c <= z as usize {
+        return false;
+    }
+    rows::row_shape(deck, start, count, e)
+}
+
+// Whether a field, and the words of the list after it, are below their bounds.
+pub fn field_list_fits(deck: &[u8], x: u32, start: u32, count: u32, a: usize, e: usize) -> bool
+    requires { ⌜ Framed (now deck) ⌝ }
+    ensures { λ r. ⌜ r ≡ ltb x a && rowShape (now (deck .entry)) start count e ⌝ }
+{
+    if a <= x as usize {
+        return false;
+    }
+    rows::row_shape(deck, start, count, e)
 }

@@ -4,13 +4,17 @@ ghost use mathlib.Core.Bool.{true};
 ghost use Prim.Native.Nat.{_<_};
 ghost use Rattle.deck.specs.Answer.{Framed, firstRefusal};
 ghost use Rattle.deck.specs.Trailer.{partCount};
+ghost use Rattle.deck.specs.Parts.{partWord};
+ghost use Rattle.deck.specs.Forms.{formShape};
 ghost use Rattle.deck.specs.Records.{classShape, classOrder, classAnswer, roleShape, roleOrder, roleAnswer};
 ghost use Rattle.deck.specs.Records.{injectedOrder, injectedAnswer, conceptForm, conceptAnswer, axiomForm, axiomAnswer, factAnswer};
 ghost use Rattle.deck.specs.Records.{recordAnswer, partAnswer};
 use crate::DeckAnswer;
-use crate::forms;
-use crate::forms::Form;
-use crate::forms::Kind;
+use crate::forms::ANY;
+use crate::forms::ZERO;
+use crate::forms::field_list_fits;
+use crate::forms::fields_fit;
+use crate::forms::list_field_fits;
 use crate::parts;
 use crate::refusal::Refusal;
 use crate::rows;
@@ -38,7 +42,14 @@ fn class_answer(deck: &[u8], k: usize) -> DeckAnswer
     requires { ⌜ k < partCount (now deck) 0 ⌝ }
     ensures { λ r. ⌜ r ≡ classAnswer (now (deck .entry)) k ⌝ }
 {
-    if !forms::form_shape(deck, 0, k, 0, 0, Form::FieldList(Kind::Flag, Kind::Class)) {
+    if !field_list_fits(
+        deck,
+        parts::part_word(deck, 0, k, 0),
+        parts::part_word(deck, 0, k, 1),
+        parts::part_word(deck, 0, k, 2),
+        2,
+        parts::count(deck, 0),
+    ) {
         return DeckAnswer::Refused(Refusal::BadField);
     }
     if !class_order(deck, k) {
@@ -130,13 +141,13 @@ fn injected_answer(deck: &[u8], k: usize) -> DeckAnswer
     requires { ⌜ k < partCount (now deck) 2 ⌝ }
     ensures { λ r. ⌜ r ≡ injectedAnswer (now (deck .entry)) k ⌝ }
 {
-    if !forms::form_shape(
-        deck,
-        2,
-        k,
-        0,
-        0,
-        Form::Fields(Kind::Class, Kind::Role, Kind::RealClass),
+    if !fields_fit(
+        parts::part_word(deck, 2, k, 0),
+        parts::part_word(deck, 2, k, 1),
+        parts::part_word(deck, 2, k, 2),
+        parts::count(deck, 0),
+        parts::count(deck, 1),
+        parts::real(deck),
     ) {
         return DeckAnswer::Refused(Refusal::BadField);
     }
@@ -146,29 +157,30 @@ fn injected_answer(deck: &[u8], k: usize) -> DeckAnswer
     DeckAnswer::Accepted
 }
 
-const CONCEPT_FORMS: [Form; 12] = [
-    Form::Fields(Kind::Zero, Kind::Zero, Kind::Zero),
-    Form::Fields(Kind::Zero, Kind::Zero, Kind::Zero),
-    Form::Fields(Kind::Class, Kind::Zero, Kind::Zero),
-    Form::Fields(Kind::Any, Kind::Zero, Kind::Zero),
-    Form::Fields(Kind::RoleWord, Kind::Zero, Kind::Zero),
-    Form::Fields(Kind::Concept, Kind::Zero, Kind::Zero),
-    Form::ListField(Kind::Concept, Kind::Zero),
-    Form::ListField(Kind::Concept, Kind::Zero),
-    Form::Fields(Kind::RoleWord, Kind::Concept, Kind::Zero),
-    Form::Fields(Kind::RoleWord, Kind::Concept, Kind::Zero),
-    Form::Fields(Kind::Any, Kind::RoleWord, Kind::Concept),
-    Form::Fields(Kind::Any, Kind::RoleWord, Kind::Concept),
-];
-
-fn concept_form(tag: u32) -> Form
-    ensures { λ r. ⌜ r ≡ conceptForm tag ⌝ }
+// Whether the fields of a concept are as its tag asks, with operands below `concepts`.
+fn concept_shape(deck: &[u8], k: usize, concepts: usize) -> bool
+    requires { ⌜ Framed (now deck) ⌝ }
+    requires { ⌜ k < partCount (now deck) 3 ⌝ }
+    ensures { λ r. ⌜ r ≡ formShape (now (deck .entry)) 3 k 1 concepts (conceptForm (partWord (now (deck .entry)) 3 k 0)) ⌝ }
 {
-    let at = tag as usize;
-    if at < 12 {
-        CONCEPT_FORMS[at]
-    } else {
-        Form::Unknown
+    let words = 2 * parts::count(deck, 1);
+    let x = parts::part_word(deck, 3, k, 1);
+    let y = parts::part_word(deck, 3, k, 2);
+    let z = parts::part_word(deck, 3, k, 3);
+    match parts::part_word(deck, 3, k, 0) {
+        0 => fields_fit(x, y, z, ZERO, ZERO, ZERO),
+        1 => fields_fit(x, y, z, ZERO, ZERO, ZERO),
+        2 => fields_fit(x, y, z, parts::count(deck, 0), ZERO, ZERO),
+        3 => fields_fit(x, y, z, ANY, ZERO, ZERO),
+        4 => fields_fit(x, y, z, words, ZERO, ZERO),
+        5 => fields_fit(x, y, z, concepts, ZERO, ZERO),
+        6 => list_field_fits(deck, x, y, z, concepts, ZERO),
+        7 => list_field_fits(deck, x, y, z, concepts, ZERO),
+        8 => fields_fit(x, y, z, words, concepts, ZERO),
+        9 => fields_fit(x, y, z, words, concepts, ZERO),
+        10 => fields_fit(x, y, z, ANY, words, concepts),
+        11 => fields_fit(x, y, z, ANY, words, concepts),
+        12..=4294967295 => false,
     }
 }
 
@@ -178,53 +190,53 @@ fn concept_answer(deck: &[u8], k: usize) -> DeckAnswer
     requires { ⌜ k < partCount (now deck) 3 ⌝ }
     ensures { λ r. ⌜ r ≡ conceptAnswer (now (deck .entry)) k ⌝ }
 {
-    let form = concept_form(parts::part_word(deck, 3, k, 0));
-    if forms::form_shape(deck, 3, k, 1, k, form) {
+    if concept_shape(deck, k, k) {
         return DeckAnswer::Accepted;
     }
-    if forms::form_shape(deck, 3, k, 1, parts::count(deck, 3), form) {
+    if concept_shape(deck, k, parts::count(deck, 3)) {
         return DeckAnswer::Refused(Refusal::ForwardOperand);
     }
     DeckAnswer::Refused(Refusal::BadField)
 }
 
-const AXIOM_FORMS: [Form; 26] = [
-    Form::Fields(Kind::Concept, Kind::Concept, Kind::Zero),
-    Form::ListField(Kind::Concept, Kind::Zero),
-    Form::ListField(Kind::Concept, Kind::Zero),
-    Form::FieldList(Kind::Class, Kind::Concept),
-    Form::Fields(Kind::RoleWord, Kind::RoleWord, Kind::Zero),
-    Form::ListField(Kind::RoleWord, Kind::RoleWord),
-    Form::ListField(Kind::RoleWord, Kind::Zero),
-    Form::ListField(Kind::RoleWord, Kind::Zero),
-    Form::Fields(Kind::RoleWord, Kind::RoleWord, Kind::Zero),
-    Form::Fields(Kind::RoleWord, Kind::Concept, Kind::Zero),
-    Form::Fields(Kind::RoleWord, Kind::Concept, Kind::Zero),
-    Form::Fields(Kind::RoleWord, Kind::Zero, Kind::Zero),
-    Form::Fields(Kind::RoleWord, Kind::Zero, Kind::Zero),
-    Form::Fields(Kind::RoleWord, Kind::Zero, Kind::Zero),
-    Form::Fields(Kind::RoleWord, Kind::Zero, Kind::Zero),
-    Form::Fields(Kind::RoleWord, Kind::Zero, Kind::Zero),
-    Form::Fields(Kind::RoleWord, Kind::Zero, Kind::Zero),
-    Form::Fields(Kind::RoleWord, Kind::Zero, Kind::Zero),
-    Form::Fields(Kind::Concept, Kind::Any, Kind::Zero),
-    Form::Fields(Kind::RoleWord, Kind::Any, Kind::Any),
-    Form::Fields(Kind::RoleWord, Kind::Any, Kind::Any),
-    Form::ListField(Kind::Any, Kind::Zero),
-    Form::ListField(Kind::Any, Kind::Zero),
-    Form::Fields(Kind::Class, Kind::Zero, Kind::Zero),
-    Form::Fields(Kind::Role, Kind::Zero, Kind::Zero),
-    Form::Fields(Kind::Any, Kind::Zero, Kind::Zero),
-];
-
-fn axiom_form(tag: u32) -> Form
-    ensures { λ r. ⌜ r ≡ axiomForm tag ⌝ }
+// Whether the fields of an axiom are as its tag asks, with concepts below `concepts`.
+fn axiom_shape(deck: &[u8], k: usize, concepts: usize) -> bool
+    requires { ⌜ Framed (now deck) ⌝ }
+    requires { ⌜ k < partCount (now deck) 4 ⌝ }
+    ensures { λ r. ⌜ r ≡ formShape (now (deck .entry)) 4 k 1 concepts (axiomForm (partWord (now (deck .entry)) 4 k 0)) ⌝ }
 {
-    let at = tag as usize;
-    if at < 26 {
-        AXIOM_FORMS[at]
-    } else {
-        Form::Unknown
+    let words = 2 * parts::count(deck, 1);
+    let x = parts::part_word(deck, 4, k, 1);
+    let y = parts::part_word(deck, 4, k, 2);
+    let z = parts::part_word(deck, 4, k, 3);
+    match parts::part_word(deck, 4, k, 0) {
+        0 => fields_fit(x, y, z, concepts, concepts, ZERO),
+        1 => list_field_fits(deck, x, y, z, concepts, ZERO),
+        2 => list_field_fits(deck, x, y, z, concepts, ZERO),
+        3 => field_list_fits(deck, x, y, z, parts::count(deck, 0), concepts),
+        4 => fields_fit(x, y, z, words, words, ZERO),
+        5 => list_field_fits(deck, x, y, z, words, words),
+        6 => list_field_fits(deck, x, y, z, words, ZERO),
+        7 => list_field_fits(deck, x, y, z, words, ZERO),
+        8 => fields_fit(x, y, z, words, words, ZERO),
+        9 => fields_fit(x, y, z, words, concepts, ZERO),
+        10 => fields_fit(x, y, z, words, concepts, ZERO),
+        11 => fields_fit(x, y, z, words, ZERO, ZERO),
+        12 => fields_fit(x, y, z, words, ZERO, ZERO),
+        13 => fields_fit(x, y, z, words, ZERO, ZERO),
+        14 => fields_fit(x, y, z, words, ZERO, ZERO),
+        15 => fields_fit(x, y, z, words, ZERO, ZERO),
+        16 => fields_fit(x, y, z, words, ZERO, ZERO),
+        17 => fields_fit(x, y, z, words, ZERO, ZERO),
+        18 => fields_fit(x, y, z, concepts, ANY, ZERO),
+        19 => fields_fit(x, y, z, words, ANY, ANY),
+        20 => fields_fit(x, y, z, words, ANY, ANY),
+        21 => list_field_fits(deck, x, y, z, ANY, ZERO),
+        22 => list_field_fits(deck, x, y, z, ANY, ZERO),
+        23 => fields_fit(x, y, z, parts::count(deck, 0), ZERO, ZERO),
+        24 => fields_fit(x, y, z, parts::count(deck, 1), ZERO, ZERO),
+        25 => fields_fit(x, y, z, ANY, ZERO, ZERO),
+        26..=4294967295 => false,
     }
 }
 
@@ -233,8 +245,7 @@ fn axiom_answer(deck: &[u8], k: usize) -> DeckAnswer
     requires { ⌜ k < partCount (now deck) 4 ⌝ }
     ensures { λ r. ⌜ r ≡ axiomAnswer (now (deck .entry)) k ⌝ }
 {
-    let form = axiom_form(parts::part_word(deck, 4, k, 0));
-    if forms::form_shape(deck, 4, k, 1, parts::count(deck, 3), form) {
+    if axiom_shape(deck, k, parts::count(deck, 3)) {
         DeckAnswer::Accepted
     } else {
         DeckAnswer::Refused(Refusal::BadField)
@@ -246,13 +257,13 @@ fn fact_answer(deck: &[u8], k: usize) -> DeckAnswer
     requires { ⌜ k < partCount (now deck) 5 ⌝ }
     ensures { λ r. ⌜ r ≡ factAnswer (now (deck .entry)) k ⌝ }
 {
-    if forms::form_shape(
-        deck,
-        5,
-        k,
-        0,
-        0,
-        Form::Fields(Kind::Class, Kind::Role, Kind::Class),
+    if fields_fit(
+        parts::part_word(deck, 5, k, 0),
+        parts::part_word(deck, 5, k, 1),
+        parts::part_word(deck, 5, k, 2),
+        parts::count(deck, 0),
+        parts::count(deck, 1),
+        parts::count(deck, 0),
     ) {
         DeckAnswer::Accepted
     } else {

@@ -18,20 +18,24 @@ pub struct Span {
     pub count: u32,
 }
 
-// Whether each word of the row is below n.
+// Whether each word of the row is below n. The pass goes to the row's end whatever it finds, so that
+// the compiler tests several words at once; the one of row_rises too.
 fn row_below(deck: &[u8], start: usize, count: usize, n: usize) -> bool
     requires { ⌜ Framed (now deck) ⌝ }
     requires { ⌜ start + count ≤ partCount (now deck) 6 ⌝ }
     ensures { λ r. ⌜ r ≡ rowBelow (now (deck .entry)) start count n ⌝ }
 {
+    if n > 4294967295 {
+        return true; // as any word is
+    }
+    let bound = n as u32;
+    let mut below = true;
     let mut i = 0;
     while i < count {
-        if n <= parts::list_word(deck, start + i) as usize {
-            return false;
-        }
+        below = below & (parts::list_word(deck, start + i) < bound);
         i += 1;
     }
-    true
+    below
 }
 
 // Whether the row lies within lists, and each word of it is below n.
@@ -54,14 +58,13 @@ pub fn row_rises(deck: &[u8], start: usize, count: usize) -> bool
     requires { ⌜ start + count ≤ partCount (now deck) 6 ⌝ }
     ensures { λ r. ⌜ r ≡ rowRises (now (deck .entry)) start count ⌝ }
 {
+    let mut rises = true;
     let mut i = 0;
     while i + 1 < count {
-        if parts::list_word(deck, start + i + 1) <= parts::list_word(deck, start + i) {
-            return false;
-        }
+        rises = rises & (parts::list_word(deck, start + i) < parts::list_word(deck, start + i + 1));
         i += 1;
     }
-    true
+    rises
 }
 
 // Whether a word of a row that rises is x, by halving.
