@@ -9,10 +9,10 @@ use borrow.Author.Tests.{ltb-true, leb-true, lt-ltb}
 use lib.Dec.{ltb}
 use lib.ListN.{length}
 use Rattle.deck.specs.declared.rows.Span.{Span}
-use Rattle.deck.specs.declared.forms.Kind.{Kind}
-use Rattle.deck.specs.declared.forms.Kind.the-variants.{Zero, Flag, Class, RealClass, Role, RoleWord, Concept, Any}
-use Rattle.deck.specs.declared.forms.Form.{Form}
-use Rattle.deck.specs.declared.forms.Form.the-variants.{Fields, ListField, FieldList, Unknown}
+use Rattle.deck.specs.Kind.{Kind}
+use Rattle.deck.specs.Kind.{Zero, Flag, Class, RealClass, Role, RoleWord, Concept, Any}
+use Rattle.deck.specs.Kind.{Form}
+use Rattle.deck.specs.Kind.{Fields, ListField, FieldList, Unknown}
 use Rattle.deck.specs.Below.{allBelow}
 use Rattle.deck.specs.Trailer.{partCount}
 use Rattle.deck.specs.Parts.{partWord, listWord}

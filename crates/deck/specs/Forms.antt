@@ -3,10 +3,10 @@ use Prim.Native.Nat.{ℕ, _+_, _*_}
 use mathlib.Core.List.{List}
 use mathlib.Core.Bool.{Bool, false, _&&_}
 use lib.Dec.{ltb}
-use Rattle.deck.specs.declared.forms.Kind.{Kind}
-use Rattle.deck.specs.declared.forms.Kind.the-variants.{Zero, Flag, Class, RealClass, Role, RoleWord, Concept, Any}
-use Rattle.deck.specs.declared.forms.Form.{Form}
-use Rattle.deck.specs.declared.forms.Form.the-variants.{Fields, ListField, FieldList, Unknown}
+use Rattle.deck.specs.Kind.{Kind}
+use Rattle.deck.specs.Kind.{Zero, Flag, Class, RealClass, Role, RoleWord, Concept, Any}
+use Rattle.deck.specs.Kind.{Form}
+use Rattle.deck.specs.Kind.{Fields, ListField, FieldList, Unknown}
 use Rattle.deck.specs.Trailer.{partCount, realOf}
 use Rattle.deck.specs.Parts.{partWord}
 use Rattle.deck.specs.Rows.{rowShape}

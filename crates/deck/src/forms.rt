@@ -1,31 +1,10 @@
-// What the fields of a record hold: the kinds and forms that the definitions name, and the tests of
-// three fields by what words of their kinds are below.
+// The tests of three fields, by what words of their kinds are below.
 ghost use mathlib.Core.Path.{_≡_};
 ghost use mathlib.Core.Bool.{_&&_};
 ghost use lib.Dec.{ltb};
 ghost use Rattle.deck.specs.Answer.{Framed};
 ghost use Rattle.deck.specs.Rows.{rowShape};
 use crate::rows;
-
-// What a field holds: nothing, a flag, a number of something, or any word.
-pub enum Kind {
-    Zero,
-    Flag,
-    Class,
-    RealClass,
-    Role,
-    RoleWord,
-    Concept,
-    Any,
-}
-
-// What three fields hold: a field each, or a list (start and count) before or after a field.
-pub enum Form {
-    Fields(Kind, Kind, Kind),
-    ListField(Kind, Kind),
-    FieldList(Kind, Kind),
-    Unknown,
-}
 
 // What a word that must be 0 is below, and what any word is below.
 pub const ZERO: usize = 1;

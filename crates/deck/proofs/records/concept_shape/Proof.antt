@@ -6,8 +6,8 @@ use native.Mathlib.Omega.{arith}
 use borrow.Author.Needs.{needs}
 use denote.Ref.{now}
 use lib.ListN.{List·getD-eq-default}
-use Rattle.deck.specs.declared.forms.Form.{Form}
-use Rattle.deck.specs.declared.forms.Form.the-variants.{Unknown}
+use Rattle.deck.specs.Kind.{Form}
+use Rattle.deck.specs.Kind.{Unknown}
 use Rattle.deck.specs.Trailer.{partCount, realOf}
 use Rattle.deck.specs.Parts.{partWord}
 use Rattle.deck.specs.Forms.{Counts, formShape}
