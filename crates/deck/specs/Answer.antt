@@ -21,12 +21,12 @@ abbrev pub orElse : DeckAnswer → DeckAnswer → DeckAnswer
 orElse Accepted b = b
 orElse (Refused r) b = Refused r
 
--- the answer of the first record of n that is refused
+-- "records in part order": the answer of the first of n that is refused
 unfoldable pub firstRefusal : (ℕ → DeckAnswer) → ℕ → DeckAnswer
 firstRefusal f zero = Accepted
 firstRefusal f (suc n) = orElse (firstRefusal f n) (f n)
 
--- the tests 1 to 4
+-- "Order: 1 to 4": 1 "bytes not a multiple of 4, or under 72", 2 "edition is not 1", 3, 4
 unfoldable pub trailerAnswer : List ℕ → DeckAnswer
 trailerAnswer s =
     unless (eqb (length s % 4) 0 && leb 72 (length s)) TooShort

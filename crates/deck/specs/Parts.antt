@@ -8,6 +8,6 @@ use Rattle.deck.specs.Trailer.{partStart, partCount, widthOf}
 unfoldable pub partWord : List ℕ → ℕ → ℕ → ℕ → ℕ
 partWord s p k f = wordAt s (partStart s p + k * widthOf p + f)
 
--- a word of lists
+-- "lists (L): one word"
 abbrev pub listWord : List ℕ → ℕ → ℕ
 listWord s i = partWord s 6 i 0

@@ -16,11 +16,11 @@ use Rattle.deck.specs.Parts.{partWord}
 use Rattle.deck.specs.Rows.{rowShape, rowRises, rowHas}
 use Rattle.deck.specs.Forms.{formShape}
 
--- class: 1 if unsatisfiable else 0; row start; row count
+-- "classes: 1 if unsatisfiable else 0; row start; row count"
 abbrev pub classShape : List ℕ → ℕ → Bool
 classShape s k = formShape s 0 k 0 0 (FieldList Flag Class)
 
--- the row rises, and a satisfiable class is in its own row
+-- 6 is given for "order broken, or own number absent from a row": "A satisfiable class is in its own row"
 abbrev pub classOrder : List ℕ → ℕ → Bool
 classOrder s k =
     rowRises s (partWord s 0 k 1) (partWord s 0 k 2) && (eqb (partWord s 0 k 0) 1 || rowHas s (partWord s 0 k 1) (partWord s 0 k 2) k)
@@ -28,12 +28,12 @@ classOrder s k =
 unfoldable pub classAnswer : List ℕ → ℕ → DeckAnswer
 classAnswer s k = unless (classShape s k) BadField (unless (classOrder s k) BadOrder Accepted)
 
--- role: sub-role row start, count; range row start, count
+-- "roles: sub-role row start, count; range row start, count"
 abbrev pub roleShape : List ℕ → ℕ → Bool
 roleShape s k =
     rowShape s (partWord s 1 k 0) (partWord s 1 k 1) (partCount s 1) && rowShape s (partWord s 1 k 2) (partWord s 1 k 3) (partCount s 0)
 
--- the rows rise, and a role is in its own sub-role row
+-- "a role is in its own sub-role row", and both rows rise
 abbrev pub roleOrder : List ℕ → ℕ → Bool
 roleOrder s k =
     rowRises s (partWord s 1 k 0) (partWord s 1 k 1)
@@ -42,11 +42,11 @@ roleOrder s k =
 unfoldable pub roleAnswer : List ℕ → ℕ → DeckAnswer
 roleAnswer s k = unless (roleShape s k) BadField (unless (roleOrder s k) BadOrder Accepted)
 
--- injected: class y, role r, class q, with q real
+-- "injected: class y, role r, class q, with q under M"
 abbrev pub injectedShape : List ℕ → ℕ → Bool
 injectedShape s k = formShape s 2 k 0 0 (Fields Class Role RealClass)
 
--- (y, r) is above that of the record before
+-- "strictly increasing by (y, r)"
 abbrev pub injectedOrder : List ℕ → ℕ → Bool
 injectedOrder s k =
     eqb k 0
@@ -56,7 +56,7 @@ injectedOrder s k =
 unfoldable pub injectedAnswer : List ℕ → ℕ → DeckAnswer
 injectedAnswer s k = unless (injectedShape s k) BadField (unless (injectedOrder s k) BadOrder Accepted)
 
--- the fields of a concept, by its tag
+-- "Concept tags": the fields by tag. "Unused fields are 0"; "Individuals and cardinalities may be any value."
 abbrev pub conceptForms : List Form
 conceptForms =
     Fields Zero Zero Zero ∷  -- 0 Top
@@ -76,14 +76,14 @@ conceptForms =
 abbrev pub conceptForm : ℕ → Form
 conceptForm tag = getD conceptForms tag Unknown
 
--- tag and three fields; operands are below the concept
+-- "tag and three fields"; 7 is given for "operand below C but not below its concept"
 unfoldable pub conceptAnswer : List ℕ → ℕ → DeckAnswer
 conceptAnswer s k =
     unless (formShape s 3 k 1 (partCount s 3) (conceptForm (partWord s 3 k 0))) BadField
     (unless (formShape s 3 k 1 k (conceptForm (partWord s 3 k 0))) ForwardOperand
     Accepted)
 
--- the fields of an axiom, by its tag
+-- "The tag of an axiom is one of 0 to 25": the fields by tag. "Other role fields of axioms are role words."
 abbrev pub axiomForms : List Form
 axiomForms =
     Fields Concept Concept Zero ∷  -- 0 SubClassOf
@@ -120,7 +120,7 @@ axiomForm tag = getD axiomForms tag Unknown
 unfoldable pub axiomAnswer : List ℕ → ℕ → DeckAnswer
 axiomAnswer s k = unless (formShape s 4 k 1 (partCount s 3) (axiomForm (partWord s 4 k 0))) BadField Accepted
 
--- fact: class, role, class
+-- "facts: class, role, class"
 abbrev pub factShape : List ℕ → ℕ → Bool
 factShape s k = formShape s 5 k 0 0 (Fields Class Role Class)
 
@@ -137,6 +137,6 @@ recordAnswer s p = getD (recordAnswers s) p (λ k. Accepted)
 unfoldable pub partAnswer : List ℕ → ℕ → DeckAnswer
 partAnswer s p = firstRefusal (recordAnswer s p) (partCount s p)
 
--- the tests 1 to 4; then the records in part order, each tested for 5, 6, 7
+-- "Order: 1 to 4; then records in part order, each tested for 5, 6, 7"
 unfoldable pub deckAnswer : List ℕ → DeckAnswer
 deckAnswer s = orElse (trailerAnswer s) (firstRefusal (partAnswer s) 6)

@@ -1,4 +1,4 @@
--- Rows: words of lists, from a start, so many.
+-- Rows and lists: "Starts of rows count within lists."
 use Prim.Native.Nat.{ℕ, _+_, _-_}
 use mathlib.Core.List.{List}
 use mathlib.Core.Bool.{Bool, _&&_}
@@ -7,11 +7,11 @@ use Rattle.deck.specs.Trailer.{partCount}
 use Rattle.deck.specs.Parts.{listWord}
 use Rattle.deck.specs.Below.{allBelow, anyBelow}
 
--- the row lies within lists
+-- a list is in range if it lies within the lists part; a sum never wraps here
 abbrev pub rowFits : List ℕ → ℕ → ℕ → Bool
 rowFits s start count = leb (start + count) (partCount s 6)
 
--- the i-th word of a row is below n; it is below the next; it is x
+-- the i-th word of a row is below n; it is below the next ("Rows strictly increase."); it is x
 abbrev pub wordBelow : List ℕ → ℕ → ℕ → ℕ → Bool
 wordBelow s start n i = ltb (listWord s (start + i)) n
 
