@@ -1,0 +1,170 @@
+-- Judging and checking look at a structure's elements only, their classes and the edges between them: structures that agree in
+-- these have the same judgements and verdicts.
+use Prim.Native.Nat.{ℕ, _<_}
+use mathlib.Core.Bool.{Bool, true, false, cond}
+use mathlib.Core.Path.{_≡_, refl, ap, _∙_}
+use mathlib.Core.List.{List, [], _∷_, map, flatMap, List·Memᴰ as Member, List·Memᴰ·head as here, List·Memᴰ·tail as there, List·Memᴰ·not-nil as nothing-in}
+use lib.Dec.{ltb, eqb}
+use lib.ListN.{List·getD-eq-default}
+use borrow.Author.Tests.{ltb-true, ltb-false}
+use Rattle.deck.specs.Deck.{Deck, Role, roleId, Concept, Axiom, conceptAt, roleAt, classCount, roleCount}
+use Rattle.deck.specs.Sound.{Sound, ConceptFits, countsIn}
+use Rattle.eval.specs.declared.judgement.Judgement.{Judgement}
+use Rattle.eval.specs.declared.standing.Standing.{Standing}
+use Rattle.eval.specs.declared.verdict.Witnesses.{Witnesses}
+use Rattle.eval.specs.declared.verdict.Verdict.the-variants.{Holds, UnhandledAxiom}
+use Rattle.eval.specs.Standing.{fresh, andNext, someNext}
+use Rattle.eval.specs.Lists.{range, keep, any}
+use Rattle.eval.specs.Structure.{Structure, elements, hasEdge, successors, pair, pairs, Pair, anyInverse}
+use Rattle.eval.specs.Judge.{judge, judgeOf, truth, someFrom}
+use Rattle.eval.specs.Verdict.{verdict, scan, implies, allAgree, atMostOne, within, onward, composed, across, equivalent, inTurn, one, two, three}
+use Rattle.eval.proofs.Falling.{falling}
+use Rattle.eval.proofs.ListLaws.{map-same}
+use Rattle.eval.proofs.Steps.{fits, each-below, and-same, judge-at}
+use Rattle.eval.proofs.EdgeLaws.{in-elements, in-successors, in-pairs, Edge}
+
+pub record Agree (D : Deck) (S T : Structure) : Type 0 where
+  pub size : S .size ≡ T .size
+  pub member : (e k : ℕ) → e < S .size → k < classCount D → S .member e k ≡ T .member e k
+  pub edge : (r x y : ℕ) → r < roleCount D → x < S .size → y < S .size → S .edge r x y ≡ T .edge r x y
+
+-- ---- what a list is asked
+keep-same : (p q : ℕ → Bool) (xs : List ℕ) → ((x : ℕ) → Member x xs → p x ≡ q x) → keep p xs ≡ keep q xs
+unfolding keep
+keep-same p q [] h = refl
+keep-same p q (x ∷ xs) h = rw (h x (here refl), keep-same p q xs (λ y m. h y (there m)))
+
+flat-same : {A B : Type 0} (f g : A → List B) (xs : List A) → ((x : A) → Member x xs → f x ≡ g x) → flatMap f xs ≡ flatMap g xs
+unfolding flatMap
+flat-same f g [] h = refl
+flat-same f g (x ∷ xs) h = rw (h x (here refl), flat-same f g xs (λ y m. h y (there m)))
+
+some-asks : (f g : ℕ → Judgement) (s : Standing) (xs : List ℕ) → ((x : ℕ) → Member x xs → f x ≡ g x) → someFrom f s xs ≡ someFrom g s xs
+unfolding someFrom
+some-asks f g s [] h = refl
+some-asks f g s (x ∷ xs) h = rw (h x (here refl)) (some-asks f g (someNext s (g x)) xs (λ y m. h y (there m)))
+
+scan-same : {A : Type 0} (f g : A → Judgement) (w : A → Witnesses) (s : Standing) (xs : List A) → ((x : A) → Member x xs → f x ≡ g x) → scan f w s xs ≡ scan g w s xs
+unfolding scan
+scan-same f g w s [] h = refl
+scan-same f g w s (x ∷ xs) h = rw (h x (here refl), scan-same f g w (andNext s (g x)) xs (λ y m. h y (there m)))
+
+module _ (D : Deck) (W : Sound D) (S T : Structure) (Q : Agree D S T) where
+  -- the sub-roles of every role number are roles: past the count stands an empty row
+  sub-below : (r q : ℕ) → Member q (roleAt D r .subRoles) → q < roleCount D
+  sub-below r q m = go (ltb r (roleCount D)) refl
+    where
+      go : (b : Bool) → ltb r (roleCount D) ≡ b → q < roleCount D
+      go true e = each-below (roleCount D) (roleAt D r .subRoles) (W .roles r (ltb-true r (roleCount D) e) .below) q m
+      go false e = absurd (nothing-in (rw (List·getD-eq-default (D .roles) (record { subRoles = []; range = [] }) (ltb-false r (roleCount D) e)) at m))
+
+  edge-agree : (r x y : ℕ) → x < S .size → y < S .size → hasEdge D S r x y ≡ hasEdge D T r x y
+  unfolding hasEdge
+  edge-agree r x y h k = ap any (map-same (λ q. S .edge q x y) (λ q. T .edge q x y) (roleAt D r .subRoles) (λ q m. Q .edge q x y (sub-below r q m) h k))
+
+  successors-agree : (r x : ℕ) → x < S .size → successors D S r x ≡ successors D T r x
+  unfolding successors
+  successors-agree r x h =
+      keep-same (hasEdge D S r x) (hasEdge D T r x) (elements S) (λ y m. edge-agree r x y h (in-elements S y m)) ∙ ap (λ (n : ℕ). keep (hasEdge D T r x) (range 0 n)) (Q .size)
+
+  pairs-agree : (r : ℕ) → pairs D S r ≡ pairs D T r
+  unfolding pairs
+  pairs-agree r =
+      flat-same (λ x. map (pair x) (successors D S r x)) (λ x. map (pair x) (successors D T r x)) (elements S) (λ x m. ap (map (pair x)) (successors-agree r x (in-elements S x m)))
+      ∙ ap (λ (n : ℕ). flatMap (λ x. map (pair x) (successors D T r x)) (range 0 n)) (Q .size)
+
+  -- ---- concepts
+  judge-of : (c : ℕ) (k : Concept) → ConceptFits (countsIn D) c k → ((o : ℕ) → o < c → (e : ℕ) → e < S .size → judge D S o e ≡ judge D T o e) → (e : ℕ) → e < S .size
+      → judgeOf D S k (judge D S) e ≡ judgeOf D T k (judge D T) e
+  unfolding judgeOf
+  judge-of c Concept.Top h ih e l = refl
+  judge-of c Concept.Bot h ih e l = refl
+  judge-of c (Concept.Atomic k) h ih e l = ap truth (Q .member e k l h)
+  judge-of c (Concept.Nominal i) h ih e l = refl
+  judge-of c (Concept.SelfRestriction r) h ih e l = refl
+  judge-of c (Concept.Not b) h ih e l = refl
+  judge-of c (Concept.And os) h ih e l = and-same (λ o. judge D S o e) (λ o. judge D T o e) fresh os (λ o m. ih o (each-below c os h o m) e l)
+  judge-of c (Concept.Or os) h ih e l = refl
+  judge-of c (Concept.Some (Role.Named r) b) h ih e l =
+      some-asks (judge D S b) (judge D T b) fresh (successors D S r e) (λ t m. ih b (h .1) t (in-successors D S r e t m .0)) ∙ ap (someFrom (judge D T b) fresh) (successors-agree r e l)
+  judge-of c (Concept.Some (Role.Inverse r) b) h ih e l = refl
+  judge-of c (Concept.All r b) h ih e l = refl
+  judge-of c (Concept.Min n r b) h ih e l = refl
+  judge-of c (Concept.Max n r b) h ih e l = refl
+
+  pub judge-agree : (c e : ℕ) → e < S .size → judge D S c e ≡ judge D T c e
+  judge-agree =
+      falling (λ c. (e : ℕ) → e < S .size → judge D S c e ≡ judge D T c e) (λ c ih e l. rw (judge-at D W S c, judge-at D W T c) (judge-of c (conceptAt D c) (fits D W c) ih e l))
+
+  -- ---- axioms
+  at-elements : (f g : ℕ → Judgement) → ((e : ℕ) → e < S .size → f e ≡ g e) → scan f one fresh (elements S) ≡ scan g one fresh (elements T)
+  at-elements f g h = scan-same f g one fresh (elements S) (λ e m. h e (in-elements S e m)) ∙ ap (λ (n : ℕ). scan g one fresh (range 0 n)) (Q .size)
+
+  at-pairs : (r : ℕ) (f g : Pair → Judgement) (w : Pair → Witnesses) → ((x y : ℕ) → Edge D S r x y → f (pair x y) ≡ g (pair x y)) → scan f w fresh (pairs D S r) ≡ scan g w fresh (pairs D T r)
+  at-pairs r f g w h = scan-same f g w fresh (pairs D S r) (λ p m. h (p .from) (p .to) (in-pairs D S r p m)) ∙ ap (scan g w fresh) (pairs-agree r)
+
+  within-agree : (sub sup : ℕ) → within D S sub sup ≡ within D T sub sup
+  unfolding within
+  within-agree sub sup = at-pairs sub (λ p. truth (hasEdge D S sup (p .from) (p .to))) (λ p. truth (hasEdge D T sup (p .from) (p .to))) (λ p. two (p .from) (p .to)) (λ x y e. ap truth (edge-agree sup x y (e .from-in) (e .to-in)))
+
+  onward-agree : (b sup x y : ℕ) → x < S .size → y < S .size → onward D S b sup x y ≡ onward D T b sup x y
+  unfolding onward
+  onward-agree b sup x y h k =
+      scan-same (λ z. truth (hasEdge D S sup x z)) (λ z. truth (hasEdge D T sup x z)) (three x y) fresh (successors D S b y) (λ z m. ap truth (edge-agree sup x z h (in-successors D S b y z m .0)))
+      ∙ ap (scan (λ z. truth (hasEdge D T sup x z)) (three x y) fresh) (successors-agree b y k)
+
+  composed-agree : (a b sup : ℕ) → composed D S a b sup ≡ composed D T a b sup
+  unfolding composed
+  composed-agree a b sup =
+      ap inTurn
+      (map-same (λ p. onward D S b sup (p .from) (p .to)) (λ p. onward D T b sup (p .from) (p .to)) (pairs D S a)
+      (λ p m. let e = in-pairs D S a p m in onward-agree b sup (p .from) (p .to) (e .from-in) (e .to-in)))
+      ∙ ap (λ (ps : List Pair). inTurn (map (λ p. onward D T b sup (p .from) (p .to)) ps)) (pairs-agree a)
+
+  equivalent-agree : (l : List Role) → equivalent D S l ≡ equivalent D T l
+  unfolding equivalent
+  equivalent-agree l =
+      ap inTurn
+      (map-same (λ a. inTurn (map (across D S a) l)) (λ a. inTurn (map (across D T a) l)) l
+      (λ a m. ap inTurn (map-same (across D S a) (across D T a) l (λ b n. ap (cond (eqb (roleId a) (roleId b)) Holds) (within-agree (roleId a) (roleId b))))))
+
+  chain-agree : (l : List Role) (sup : Role) → verdict D S (Axiom.SubObjectPropertyChain l sup) ≡ verdict D T (Axiom.SubObjectPropertyChain l sup)
+  unfolding verdict
+  chain-agree [] sup = refl
+  chain-agree (a ∷ []) sup = refl
+  chain-agree (a ∷ b ∷ []) sup = ap (cond (anyInverse (a ∷ b ∷ sup ∷ [])) (UnhandledAxiom 5 1)) (composed-agree (roleId a) (roleId b) (roleId sup))
+  chain-agree (a ∷ b ∷ c ∷ l) sup = refl
+
+  pub verdict-agree : (a : Axiom) → verdict D S a ≡ verdict D T a
+  unfolding verdict
+  verdict-agree (Axiom.SubClassOf sub sup) =
+      at-elements (λ e. implies (judge D S sub e) (judge D S sup e)) (λ e. implies (judge D T sub e) (judge D T sup e)) (λ e l. rw (judge-agree sub e l, judge-agree sup e l))
+  verdict-agree (Axiom.EquivalentClasses l) =
+      at-elements (λ e. allAgree (map (λ c. judge D S c e) l)) (λ e. allAgree (map (λ c. judge D T c e) l)) (λ e h. ap allAgree (map-same (λ c. judge D S c e) (λ c. judge D T c e) l (λ c m. judge-agree c e h)))
+  verdict-agree (Axiom.DisjointClasses l) =
+      at-elements (λ e. atMostOne (map (λ c. judge D S c e) l)) (λ e. atMostOne (map (λ c. judge D T c e) l)) (λ e h. ap atMostOne (map-same (λ c. judge D S c e) (λ c. judge D T c e) l (λ c m. judge-agree c e h)))
+  verdict-agree (Axiom.DisjointUnion k l) = refl
+  verdict-agree (Axiom.SubObjectPropertyOf sub sup) = ap (cond (anyInverse (sub ∷ sup ∷ [])) (UnhandledAxiom 4 1)) (within-agree (roleId sub) (roleId sup))
+  verdict-agree (Axiom.SubObjectPropertyChain l sup) = chain-agree l sup
+  verdict-agree (Axiom.EquivalentObjectProperties l) = ap (cond (anyInverse l) (UnhandledAxiom 6 1)) (equivalent-agree l)
+  verdict-agree (Axiom.DisjointObjectProperties l) = refl
+  verdict-agree (Axiom.InverseObjectProperties p q) = rw (pairs-agree (roleId p), pairs-agree (roleId q))
+  verdict-agree (Axiom.ObjectPropertyDomain r c) =
+      ap (cond (anyInverse (r ∷ [])) (UnhandledAxiom 9 1)) (at-pairs (roleId r) (λ p. judge D S c (p .from)) (λ p. judge D T c (p .from)) (λ p. one (p .from)) (λ x y e. judge-agree c x (e .from-in)))
+  verdict-agree (Axiom.ObjectPropertyRange r c) =
+      ap (cond (anyInverse (r ∷ [])) (UnhandledAxiom 10 1)) (at-pairs (roleId r) (λ p. judge D S c (p .to)) (λ p. judge D T c (p .to)) (λ p. one (p .to)) (λ x y e. judge-agree c y (e .to-in)))
+  verdict-agree (Axiom.TransitiveRole r) = ap (cond (anyInverse (r ∷ [])) (UnhandledAxiom 11 1)) (composed-agree (roleId r) (roleId r) (roleId r))
+  verdict-agree (Axiom.SymmetricRole r) = rw (pairs-agree (roleId r))
+  verdict-agree (Axiom.AsymmetricRole r) = refl
+  verdict-agree (Axiom.ReflexiveRole r) = refl
+  verdict-agree (Axiom.IrreflexiveRole r) = refl
+  verdict-agree (Axiom.FunctionalRole r) = refl
+  verdict-agree (Axiom.InverseFunctionalRole r) = refl
+  verdict-agree (Axiom.ClassAssertion c i) = refl
+  verdict-agree (Axiom.ObjectPropertyAssertion r i j) = refl
+  verdict-agree (Axiom.NegativeObjectPropertyAssertion r i j) = refl
+  verdict-agree (Axiom.SameIndividual l) = refl
+  verdict-agree (Axiom.DifferentIndividuals l) = refl
+  verdict-agree (Axiom.DeclareClass k) = refl
+  verdict-agree (Axiom.DeclareObjectProperty r) = refl
+  verdict-agree (Axiom.DeclareNamedIndividual i) = refl

@@ -1,0 +1,80 @@
+use Prim.Native.Nat.{_-_}
+use native.Mathlib.Omega.{arith}
+use borrow.Author.Needs.{needs}
+use mathlib.Core.List.{map}
+use Rattle.deck.specs.Content.{deckOf}
+use Rattle.deck.specs.Reads.{listOf}
+use Rattle.eval.specs.Judge.{judge}
+use Rattle.eval.specs.Lent.{structureOf}
+use Rattle.eval.specs.Verdict.{allAgree, verdict}
+use Rattle.eval.proofs.ElementLoops.{Passed, passed-none, passed-all, passed-stop, passed-more}
+use Rattle.eval.proofs.classes.check_equivalent_classes.Statement.{statement}
+use Rattle.eval.proofs.classes.check_equivalent_classes.Tie as tie
+use Rattle.eval.proofs.classes.check_equivalent_classes.Reads as reads
+use Rattle.eval.proofs.classes.check_equivalent_classes.Lts as lts
+use Rattle.eval.proofs.classes.votes_at.Reads as votes-at-reads
+use Rattle.eval.proofs.standing.Standing.and.Reads as and-reads
+use Rattle.eval.proofs.standing.Standing.new.Reads as new-reads
+use Rattle.eval.proofs.verdict.unresolved_or_holds.Reads as unresolved-or-holds-reads
+use Rattle.eval.proofs.votes.Votes.all_agree.Reads as all-agree-reads
+
+abbrev Inv-loop : tie.InvT-loop
+Inv-loop deck labels edges shape list elements standing₀ e₀ standing e =
+    Passed (λ x. allAgree (map (λ m. judge (deckOf deck) (structureOf (deckOf deck) labels edges shape) m x) (listOf deck list))) elements e standing
+
+abbrev μ-loop : tie.MeasureT-loop
+μ-loop deck labels edges shape list elements standing₀ e₀ standing e = elements - e
+
+new-requires : tie.Need-new-requires Inv-loop μ-loop
+new-requires c κs = search needs
+
+loop-holds : tie.Need-loop-holds Inv-loop μ-loop
+loop-holds c = passed-none _ _ (c .new .ensures)
+
+votes-at-requires : tie.Need-votes-at-requires Inv-loop μ-loop
+votes-at-requires c κs = let z = c .before .before .before .before .before in (z .pre .0, (z .pre .1, omega arith))
+
+all-agree-requires : tie.Need-all-agree-requires Inv-loop μ-loop
+all-agree-requires c κs = search needs
+
+and-requires : tie.Need-and-requires Inv-loop μ-loop
+and-requires c κs = search needs
+
+returns : tie.Need-returns Inv-loop μ-loop
+unfolding verdict allAgree
+returns c = passed-stop (c .before .before .before .before .before .loop .inv) (omega arith) (rw (c .before .before .before .votes-at .ensures .0) at (c .before .before .all-agree .ensures)) (c .before .and .ensures) (c .if1 .taken)
+
+add-e : tie.Need-add-e Inv-loop μ-loop
+add-e c = omega (arith, c .before .before .before .before .before .before .before .before .before .good)
+
+loop-less : tie.Need-loop-less Inv-loop μ-loop
+loop-less c = omega arith
+
+loop-again : tie.Need-loop-again Inv-loop μ-loop
+unfolding allAgree
+loop-again c = passed-more (c .before .before .before .before .before .loop .inv) (omega arith) (rw (c .before .before .before .votes-at .ensures .0) at (c .before .before .all-agree .ensures)) (c .before .and .ensures) (c .if1 .left)
+
+unresolved-or-holds-requires : tie.Need-unresolved-or-holds-requires Inv-loop μ-loop
+unresolved-or-holds-requires c κs = search needs
+
+returns-2 : tie.Need-returns-2 Inv-loop μ-loop
+unfolding verdict
+returns-2 c = passed-all (c .before .before .loop .inv) (omega arith) (c .unresolved-or-holds .ensures)
+
+pub check-equivalent-classes-spec : {M : Type 1} → statement M
+check-equivalent-classes-spec =
+    tie.close
+    (tie.spec
+    Inv-loop
+    μ-loop
+    new-requires
+    loop-holds
+    votes-at-requires
+    all-agree-requires
+    and-requires
+    returns
+    add-e
+    loop-less
+    loop-again
+    unresolved-or-holds-requires
+    returns-2)

@@ -1,0 +1,83 @@
+use Prim.Native.Nat.{ℕ, _-_}
+use native.Mathlib.Omega.{arith}
+use borrow.Author.Needs.{needs}
+use Rattle.deck.specs.Content.{deckOf}
+use Rattle.eval.specs.Verdict.{implies, verdict}
+use Rattle.eval.specs.declared.judgement.Judgement.{Judgement}
+use Rattle.eval.specs.Judge.{judge}
+use Rattle.eval.specs.Lent.{structureOf}
+use Rattle.eval.proofs.ElementLoops.{Passed, passed-none, passed-all, passed-stop, passed-more}
+use Rattle.eval.proofs.classes.check_sub_class_of.Statement.{statement}
+use Rattle.eval.proofs.classes.check_sub_class_of.Tie as tie
+use Rattle.eval.proofs.classes.check_sub_class_of.Reads as reads
+use Rattle.eval.proofs.classes.check_sub_class_of.Lts as lts
+use Rattle.eval.proofs.classes.implication.Reads as implication-reads
+use Rattle.eval.proofs.concepts.eval_concept.Reads as eval-concept-reads
+use Rattle.eval.proofs.standing.Standing.and.Reads as and-reads
+use Rattle.eval.proofs.standing.Standing.new.Reads as new-reads
+use Rattle.eval.proofs.verdict.unresolved_or_holds.Reads as unresolved-or-holds-reads
+
+abbrev Inv-loop : tie.InvT-loop
+Inv-loop deck labels edges shape sub sup elements standing₀ e₀ standing e =
+    let j : ℕ → ℕ → Judgement = judge (deckOf deck) (structureOf (deckOf deck) labels edges shape) in
+    Passed (λ x. implies (j (sub .0) x) (j (sup .0) x)) elements e standing
+
+abbrev μ-loop : tie.MeasureT-loop
+μ-loop deck labels edges shape sub sup elements standing₀ e₀ standing e = elements - e
+
+new-requires : tie.Need-new-requires Inv-loop μ-loop
+new-requires c κs = search needs
+
+loop-holds : tie.Need-loop-holds Inv-loop μ-loop
+loop-holds c = passed-none _ _ (c .new .ensures)
+
+eval-concept-requires : tie.Need-eval-concept-requires Inv-loop μ-loop
+eval-concept-requires c κs = let z = c .before .before .before .before .before in (z .pre .0, (z .pre .1 .0, omega arith))
+
+eval-concept-requires-2 : tie.Need-eval-concept-requires-2 Inv-loop μ-loop
+eval-concept-requires-2 c κs = let z = c .before .before .before .before .before .before in (z .pre .0, (z .pre .1 .1, omega arith))
+
+implication-requires : tie.Need-implication-requires Inv-loop μ-loop
+implication-requires c κs = search needs
+
+and-requires : tie.Need-and-requires Inv-loop μ-loop
+and-requires c κs = search needs
+
+returns : tie.Need-returns Inv-loop μ-loop
+unfolding verdict
+returns c = passed-stop (c .before .before .before .before .before .before .loop .inv) (omega arith) (rw (c .before .before .before .before .eval-concept .ensures, c .before .before .before .eval-concept2 .ensures) at (c .before .before .implication .ensures)) (c .before .and .ensures) (c .if1 .taken)
+
+add-e : tie.Need-add-e Inv-loop μ-loop
+add-e c = omega (arith, c .before .before .before .before .before .before .before .before .before .before .good)
+
+loop-less : tie.Need-loop-less Inv-loop μ-loop
+loop-less c = omega arith
+
+loop-again : tie.Need-loop-again Inv-loop μ-loop
+loop-again c = passed-more (c .before .before .before .before .before .before .loop .inv) (omega arith) (rw (c .before .before .before .before .eval-concept .ensures, c .before .before .before .eval-concept2 .ensures) at (c .before .before .implication .ensures)) (c .before .and .ensures) (c .if1 .left)
+
+unresolved-or-holds-requires : tie.Need-unresolved-or-holds-requires Inv-loop μ-loop
+unresolved-or-holds-requires c κs = search needs
+
+returns-2 : tie.Need-returns-2 Inv-loop μ-loop
+unfolding verdict
+returns-2 c = passed-all (c .before .before .loop .inv) (omega arith) (c .unresolved-or-holds .ensures)
+
+pub check-sub-class-of-spec : {M : Type 1} → statement M
+check-sub-class-of-spec =
+    tie.close
+    (tie.spec
+    Inv-loop
+    μ-loop
+    new-requires
+    loop-holds
+    eval-concept-requires
+    eval-concept-requires-2
+    implication-requires
+    and-requires
+    returns
+    add-e
+    loop-less
+    loop-again
+    unresolved-or-holds-requires
+    returns-2)

@@ -1,0 +1,109 @@
+use Prim.Native.Nat.{_≤_, _<_, _-_}
+use mathlib.Core.Path.{_≡_, sym, ap, _∙_}
+use denote.Ref.{now}
+use native.Mathlib.Omega.{arith}
+use borrow.Author.Needs.{needs}
+use borrow.Author.Tests.{not-true, not-false}
+use Rattle.deck.specs.Content.{deckOf}
+use Rattle.eval.specs.Demand.{demandAt}
+use Rattle.eval.specs.Edges.{edgesOf, under}
+use Rattle.eval.specs.Lent.{structureOf}
+use Rattle.eval.specs.Structure.{pair}
+use Rattle.eval.proofs.EdgeWalks.{noEdge, edges-length, edges-at}
+use Rattle.eval.proofs.SeenLaws.{SeenTo, seen-start, seen-skip, seen-next, seen-end}
+use Rattle.eval.proofs.demand.lowest_failing.Statement.{statement}
+use Rattle.eval.proofs.demand.lowest_failing.Tie as tie
+use Rattle.eval.proofs.demand.lowest_failing.Reads as reads
+use Rattle.eval.proofs.demand.lowest_failing.Lts as lts
+use Rattle.eval.proofs.demand.meets.Reads as meets-reads
+use Rattle.eval.proofs.edges.edge_at.Reads as edge-at-reads
+use Rattle.eval.proofs.edges.is_sub_role.Reads as is-sub-role-reads
+use Rattle.eval.proofs.lowest.Lowest.new.Reads as new-reads
+use Rattle.eval.proofs.lowest.Lowest.next.Reads as next-reads
+
+abbrev Inv-loop : tie.InvT-loop
+Inv-loop deck labels edges shape r demand count lowest₀ i₀ lowest i =
+    (i ≤ shape .edges) × SeenTo (under (deckOf deck) (r .0)) (λ e. demandAt (deckOf deck) (structureOf (deckOf deck) labels edges shape) demand (pair (e .from .0) (e .to .0))) (edgesOf edges (shape .edges)) i lowest
+
+abbrev μ-loop : tie.MeasureT-loop
+μ-loop deck labels edges shape r demand count lowest₀ i₀ lowest i = shape .edges - i
+
+cast-count : tie.Need-cast-count Inv-loop μ-loop
+cast-count c = search needs
+
+new-requires : tie.Need-new-requires Inv-loop μ-loop
+new-requires c κs = search needs
+
+loop-holds : tie.Need-loop-holds Inv-loop μ-loop
+loop-holds c = (omega arith, rw (c .new .ensures) (seen-start _ _ (edgesOf (now (c .before .before .before .before .args .edges)) (c .before .before .before .before .args .shape .edges))))
+
+edge-at-requires : tie.Need-edge-at-requires Inv-loop μ-loop
+edge-at-requires c κs = omega (arith, c .before .before .before .before .before .before .pre .0 .count)
+
+add-i : tie.Need-add-i Inv-loop μ-loop
+add-i c = omega (arith, c .before .before .before .before .before .before .before .pre .0 .count)
+
+is-sub-role-requires : tie.Need-is-sub-role-requires Inv-loop μ-loop
+is-sub-role-requires c κs = let z = c .before .before .before .before .before .before .before in (z .pre .0 .accepted, z .pre .1 .0)
+
+loop-less : tie.Need-loop-less Inv-loop μ-loop
+loop-less c = omega arith
+
+loop-again : tie.Need-loop-again Inv-loop μ-loop
+loop-again c =
+    let z = c .before .before .before .before .before .before .before .before .before in
+    let rows = now (z .args .edges) in
+    let n = z .args .shape .edges in
+    let i : c .before .before .before .before .loop .i < n = omega arith in
+    let same = c .before .before .edge-at .ensures ∙ sym (edges-at rows n (c .before .before .before .before .loop .i) i (z .pre .0 .count)) in
+    (omega arith, seen-skip _ _ (edgesOf rows n) noEdge (c .before .before .before .before .loop .i) (omega (arith, edges-length rows n (z .pre .0 .count))) (rw same at (sym (c .before .is-sub-role .ensures) ∙ not-true _ (c .if1 .taken))) (c .before .before .before .before .loop .inv .1))
+
+meets-requires : tie.Need-meets-requires Inv-loop μ-loop
+meets-requires c κs =
+    let z = c .before .before .before .before .before .before .before .before .before in
+    (z .pre .0, (z .pre .1 .1, rw (c .before .before .edge-at .ensures) (z .pre .0 .ends (c .before .before .before .before .loop .i) (omega arith))))
+
+next-requires : tie.Need-next-requires Inv-loop μ-loop
+next-requires c κs = search needs
+
+loop-less-2 : tie.Need-loop-less-2 Inv-loop μ-loop
+loop-less-2 c = omega arith
+
+loop-again-2 : tie.Need-loop-again-2 Inv-loop μ-loop
+loop-again-2 c =
+    let z = c .before .before .before .before .before .before .before .before .before .before .before in
+    let rows = now (z .args .edges) in
+    let n = z .args .shape .edges in
+    let i : c .before .before .before .before .before .before .loop .i < n = omega arith in
+    let same = c .before .before .before .before .edge-at .ensures ∙ sym (edges-at rows n (c .before .before .before .before .before .before .loop .i) i (z .pre .0 .count)) in (
+      omega arith,
+      rw (c .next .ensures, same)
+          (seen-next _ _ (edgesOf rows n) noEdge (c .before .before .before .before .before .before .loop .i) (omega (arith, edges-length rows n (z .pre .0 .count))) (rw same at (sym (c .before .before .before .is-sub-role .ensures) ∙ not-false _ (c .before .before .if1 .left))) (rw same at (c .before .meets .ensures)) (c .before .before .before .before .before .before .loop .inv .1)),
+    )
+
+returns : tie.Need-returns Inv-loop μ-loop
+returns c =
+    let z = c .before .before .before .before .before .before in
+    let rows = now (z .args .edges) in
+    let n = z .args .shape .edges in
+    seen-end _ _ (edgesOf rows n) (c .before .loop .i) (omega (arith, edges-length rows n (z .pre .0 .count))) (c .before .loop .inv .1)
+
+pub lowest-failing-spec : {M : Type 1} → statement M
+lowest-failing-spec =
+    tie.close
+    (tie.spec
+    Inv-loop
+    μ-loop
+    cast-count
+    new-requires
+    loop-holds
+    edge-at-requires
+    add-i
+    is-sub-role-requires
+    loop-less
+    loop-again
+    meets-requires
+    next-requires
+    loop-less-2
+    loop-again-2
+    returns)

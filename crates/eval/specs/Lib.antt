@@ -1,0 +1,12 @@
+pub mod Lists
+pub mod Numbered
+pub mod Structure
+pub mod Standing
+pub mod Judge
+pub mod Verdict
+pub mod Truth
+pub mod Edges
+pub mod Lent
+pub mod Lowest
+pub mod Demand
+pub mod Justified

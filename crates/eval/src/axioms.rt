@@ -1,0 +1,71 @@
+// Checking an axiom, by its tag.
+ghost use mathlib.Core.Path.{_≡_};
+ghost use Prim.Native.Nat.{_<_};
+ghost use Rattle.deck.specs.Content.{deckOf};
+ghost use Rattle.deck.specs.Deck.{axiomCount, axiomAt};
+ghost use Rattle.eval.specs.Justified.{Justified};
+ghost use Rattle.eval.specs.Lent.{Fits, structureOf};
+ghost use Rattle.eval.specs.Verdict.{verdict};
+use crate::classes::check_disjoint_classes;
+use crate::classes::check_equivalent_classes;
+use crate::classes::check_sub_class_of;
+use crate::equivalent::check_equivalent_properties;
+use crate::roles::check_chain;
+use crate::roles::check_domain;
+use crate::roles::check_inverse_properties;
+use crate::roles::check_range;
+use crate::roles::check_sub_property;
+use crate::roles::check_symmetric;
+use crate::roles::check_transitive;
+use crate::shape::Shape;
+use crate::verdict::Verdict;
+use deck::axioms::axiom_at;
+use deck::numbers::ConceptId;
+use deck::numbers::RoleWord;
+use deck::rows::Span;
+
+// Is the axiom satisfied?
+pub fn check_axiom(
+    deck: &[u8],
+    labels: &[u64],
+    edges: &[[u32; 3]],
+    shape: Shape,
+    axiom: u32,
+) -> Verdict
+    requires { ⌜ Fits (now deck) (now labels) (now edges) shape ⌝ }
+    requires { ⌜ «axiom» < axiomCount (deckOf (now deck)) ⌝ }
+    ensures is { λ v. ⌜ v ≡ verdict (deckOf (now (deck .entry))) (structureOf (deckOf (now (deck .entry))) (now (labels .entry)) (now (edges .entry)) shape) (axiomAt (deckOf (now (deck .entry))) «axiom») ⌝ }
+    ensures justified { λ v. ⌜ Justified (deckOf (now (deck .entry))) (structureOf (deckOf (now (deck .entry))) (now (labels .entry)) (now (edges .entry)) shape) (axiomAt (deckOf (now (deck .entry))) «axiom») v ⌝ }
+{
+    let record = axiom_at(deck, axiom);
+    let tag = record.tag;
+    let x = record.first;
+    let y = record.second;
+    let z = record.third;
+    match tag {
+        0 => check_sub_class_of(deck, labels, edges, shape, ConceptId(x), ConceptId(y)),
+        1 => check_equivalent_classes(deck, labels, edges, shape, Span { start: x, count: y }),
+        2 => check_disjoint_classes(deck, labels, edges, shape, Span { start: x, count: y }),
+        3 => Verdict::UnhandledAxiom(3, 0),
+        4 => check_sub_property(deck, labels, edges, shape, RoleWord(x), RoleWord(y)),
+        5 => check_chain(
+            deck,
+            labels,
+            edges,
+            shape,
+            Span { start: x, count: y },
+            RoleWord(z),
+        ),
+        6 => check_equivalent_properties(deck, labels, edges, shape, Span { start: x, count: y }),
+        7 => Verdict::UnhandledAxiom(7, 0),
+        8 => check_inverse_properties(deck, labels, edges, shape, RoleWord(x), RoleWord(y)),
+        9 => check_domain(deck, labels, edges, shape, RoleWord(x), ConceptId(y)),
+        10 => check_range(deck, labels, edges, shape, RoleWord(x), ConceptId(y)),
+        11 => check_transitive(deck, labels, edges, shape, RoleWord(x)),
+        12 => check_symmetric(deck, labels, edges, shape, RoleWord(x)),
+        13..=17 => Verdict::UnhandledAxiom(tag, 0),
+        18..=22 => Verdict::UnhandledAxiom(tag, 0),
+        23..=25 => Verdict::Holds,
+        _ => Verdict::Holds,
+    }
+}

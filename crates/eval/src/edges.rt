@@ -1,0 +1,89 @@
+// The lent list of edges: only edge_at reads a row of it.
+ghost use mathlib.Core.Path.{_≡_};
+ghost use mathlib.Core.List.{[]};
+ghost use Prim.Native.Nat.{_<_, _≤_};
+ghost use lib.ListN.{length, getD};
+ghost use Rattle.deck.specs.Content.{IsAccepted, deckOf};
+ghost use Rattle.deck.specs.Deck.{roleCount, roleAt, has};
+ghost use Rattle.eval.specs.Edges.{edgeOf, edgesOf, goes, leaves, linked, under};
+use deck::numbers::Element;
+use deck::numbers::RoleId;
+use deck::roles;
+use deck::rows;
+
+pub struct Edge {
+    pub role: RoleId,
+    pub from: Element,
+    pub to: Element,
+}
+
+pub fn edge_at(edges: &[[u32; 3]], i: usize) -> Edge
+    requires { ⌜ i < length (now edges) ⌝ }
+    ensures { λ r. ⌜ r ≡ edgeOf (getD (now (edges .entry)) i []) ⌝ }
+{
+    let e = edges[i];
+    Edge {
+        role: RoleId(e[0]),
+        from: Element(e[1]),
+        to: Element(e[2]),
+    }
+}
+
+// Is the edge's role a sub-role of r?
+pub fn is_sub_role(deck: &[u8], e: Edge, r: RoleId) -> bool
+    requires { ⌜ IsAccepted (now deck) ⌝ }
+    requires { ⌜ r .0 < roleCount (deckOf (now deck)) ⌝ }
+    ensures { λ b. ⌜ b ≡ under (deckOf (now (deck .entry))) (r .0) e ⌝ }
+{
+    rows::row_has(deck, roles::sub_roles(deck, r), e.role.0)
+}
+
+// Does the edge leave x by r?
+pub fn leaves_by(deck: &[u8], e: Edge, r: RoleId, x: Element) -> bool
+    requires { ⌜ IsAccepted (now deck) ⌝ }
+    requires { ⌜ r .0 < roleCount (deckOf (now deck)) ⌝ }
+    ensures { λ b. ⌜ b ≡ leaves (deckOf (now (deck .entry))) (r .0) (x .0) e ⌝ }
+{
+    if e.from.0 == x.0 {
+        return is_sub_role(deck, e, r);
+    }
+    false
+}
+
+// Does the edge go from x to y by r?
+fn goes_by(deck: &[u8], e: Edge, r: RoleId, x: Element, y: Element) -> bool
+    requires { ⌜ IsAccepted (now deck) ⌝ }
+    requires { ⌜ r .0 < roleCount (deckOf (now deck)) ⌝ }
+    ensures { λ b. ⌜ b ≡ goes (deckOf (now (deck .entry))) (r .0) (x .0) (y .0) e ⌝ }
+{
+    if e.from.0 == x.0 {
+        if e.to.0 == y.0 {
+            return is_sub_role(deck, e, r);
+        }
+    }
+    false
+}
+
+// Does an edge of r go from x to y, among the first `count`?
+pub fn has_edge(
+    deck: &[u8],
+    edges: &[[u32; 3]],
+    count: u32,
+    r: RoleId,
+    x: Element,
+    y: Element,
+) -> bool
+    requires { ⌜ IsAccepted (now deck) ⌝ }
+    requires { ⌜ r .0 < roleCount (deckOf (now deck)) ⌝ }
+    requires { ⌜ count ≤ length (now edges) ⌝ }
+    ensures { λ b. ⌜ b ≡ linked (deckOf (now (deck .entry))) (edgesOf (now (edges .entry)) count) (r .0) (x .0) (y .0) ⌝ }
+{
+    let mut i = 0;
+    while i < count as usize {
+        if goes_by(deck, edge_at(edges, i), r, x, y) {
+            return true;
+        }
+        i += 1;
+    }
+    false
+}

@@ -1,0 +1,127 @@
+// Equivalent roles: each ordered pair of members, held against each other.
+ghost use mathlib.Core.Path.{_≡_};
+ghost use mathlib.Core.List.{map};
+ghost use Prim.Native.Nat.{_*_, _<_};
+ghost use Rattle.deck.specs.Content.{IsAccepted, deckOf};
+ghost use Rattle.deck.specs.Deck.{roleCount, roleOf, Axiom, Role};
+ghost use Rattle.deck.specs.Reads.{listOf, ListFits};
+ghost use Rattle.eval.specs.Lent.{Fits, structureOf};
+ghost use Rattle.eval.specs.Structure.{anyInverse};
+ghost use Rattle.eval.specs.Verdict.{across, inTurn, verdict, equivalent};
+use crate::demand::Demand;
+use crate::demand::check_pairs;
+use crate::shape::Shape;
+use crate::verdict::Verdict;
+use crate::verdict::holds;
+use deck::numbers::RoleId;
+use deck::numbers::RoleWord;
+use deck::rows::Span;
+use deck::rows::item;
+
+// Is one of the role words inverse?
+fn any_inverse(deck: &[u8], list: Span) -> bool
+    requires { ⌜ IsAccepted (now deck) ⌝ }
+    requires { ⌜ ListFits (now deck) (2 * roleCount (deckOf (now deck))) list ⌝ }
+    ensures { λ b. ⌜ b ≡ anyInverse (map roleOf (listOf (now (deck .entry)) list)) ⌝ }
+{
+    let count = list.count;
+    let mut i = 0;
+    while i < count {
+        let member = RoleWord(item(deck, list, i));
+        if member.is_inverse() {
+            return true;
+        }
+        i += 1;
+    }
+    false
+}
+
+// The edges of a in b; a role is not held against itself.
+fn check_across(
+    deck: &[u8],
+    labels: &[u64],
+    edges: &[[u32; 3]],
+    shape: Shape,
+    a: RoleId,
+    b: RoleId,
+) -> Verdict
+    requires { ⌜ Fits (now deck) (now labels) (now edges) shape ⌝ }
+    requires { ⌜ a .0 < roleCount (deckOf (now deck)) ⌝ }
+    requires { ⌜ b .0 < roleCount (deckOf (now deck)) ⌝ }
+    ensures { λ v. ⌜ v ≡ across (deckOf (now (deck .entry))) (structureOf (deckOf (now (deck .entry))) (now (labels .entry)) (now (edges .entry)) shape) (Role.Named (a .0)) (Role.Named (b .0)) ⌝ }
+{
+    if a.0 == b.0 {
+        return Verdict::Holds;
+    }
+    check_pairs(deck, labels, edges, shape, a, Demand::Within(b))
+}
+
+// The edges of a in each member of the list.
+fn check_against(
+    deck: &[u8],
+    labels: &[u64],
+    edges: &[[u32; 3]],
+    shape: Shape,
+    a: RoleId,
+    list: Span,
+) -> Verdict
+    requires { ⌜ Fits (now deck) (now labels) (now edges) shape ⌝ }
+    requires { ⌜ a .0 < roleCount (deckOf (now deck)) ⌝ }
+    requires { ⌜ ListFits (now deck) (2 * roleCount (deckOf (now deck))) list ⌝ }
+    ensures { λ v. ⌜ v ≡ inTurn (map (across (deckOf (now (deck .entry))) (structureOf (deckOf (now (deck .entry))) (now (labels .entry)) (now (edges .entry)) shape) (Role.Named (a .0))) (map roleOf (listOf (now (deck .entry)) list))) ⌝ }
+{
+    let count = list.count;
+    let mut i = 0;
+    while i < count {
+        let b = RoleWord(item(deck, list, i));
+        let v = check_across(deck, labels, edges, shape, a, b.role_id());
+        if !holds(v) {
+            return v;
+        }
+        i += 1;
+    }
+    Verdict::Holds
+}
+
+// The edges of each member in each other.
+fn check_members(
+    deck: &[u8],
+    labels: &[u64],
+    edges: &[[u32; 3]],
+    shape: Shape,
+    list: Span,
+) -> Verdict
+    requires { ⌜ Fits (now deck) (now labels) (now edges) shape ⌝ }
+    requires { ⌜ ListFits (now deck) (2 * roleCount (deckOf (now deck))) list ⌝ }
+    ensures { λ v. ⌜ v ≡ equivalent (deckOf (now (deck .entry))) (structureOf (deckOf (now (deck .entry))) (now (labels .entry)) (now (edges .entry)) shape) (map roleOf (listOf (now (deck .entry)) list)) ⌝ }
+{
+    let count = list.count;
+    let mut i = 0;
+    while i < count {
+        let a = RoleWord(item(deck, list, i));
+        let v = check_against(deck, labels, edges, shape, a.role_id(), list);
+        if !holds(v) {
+            return v;
+        }
+        i += 1;
+    }
+    Verdict::Holds
+}
+
+// The members have the same edges.
+pub fn check_equivalent_properties(
+    deck: &[u8],
+    labels: &[u64],
+    edges: &[[u32; 3]],
+    shape: Shape,
+    list: Span,
+) -> Verdict
+    requires { ⌜ Fits (now deck) (now labels) (now edges) shape ⌝ }
+    requires { ⌜ ListFits (now deck) (2 * roleCount (deckOf (now deck))) list ⌝ }
+    ensures { λ v. ⌜ v ≡ verdict (deckOf (now (deck .entry))) (structureOf (deckOf (now (deck .entry))) (now (labels .entry)) (now (edges .entry)) shape) (Axiom.EquivalentObjectProperties (map roleOf (listOf (now (deck .entry)) list))) ⌝ }
+{
+    if any_inverse(deck, list) {
+        return Verdict::UnhandledAxiom(6, 1);
+    }
+    check_members(deck, labels, edges, shape, list)
+}
