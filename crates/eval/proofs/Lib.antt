@@ -26,3 +26,5 @@ pub mod PairLaws
 pub mod RoleLaws
 pub mod JustifiedLaws
 pub mod AxiomLaws
+pub mod ForeignLaws
+pub mod EntryLaws

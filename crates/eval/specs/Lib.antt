@@ -10,3 +10,5 @@ pub mod Lent
 pub mod Lowest
 pub mod Demand
 pub mod Justified
+pub mod Foreign
+pub mod Entry
