@@ -1,6 +1,9 @@
 #!/bin/sh
-# Builds and runs the bench of deck reading. Run it from the repository's top.
+# Builds and runs the benches. Run it from the repository's top.
 set -e
-rt staticlib bench_deck
-gcc -O2 -Wall -Wextra -o target/bench_deck tests/bench/deck.c target/staticlib/libbench_deck.a
+for name in deck eval; do
+    rt staticlib bench_$name
+    gcc -O2 -Wall -Wextra -o target/bench_$name tests/bench/$name.c target/staticlib/libbench_$name.a
+done
 target/bench_deck
+(ulimit -s 8192 && target/bench_eval)

@@ -12,12 +12,10 @@ use Rattle.eval.specs.Lists.{every, any}
 use Rattle.eval.specs.Structure.{Structure, elements, hasEdge, hasPair, inverse, anyInverse}
 
 -- "A choice gives each unresolved concept number any set of elements, each individual any element, if there is one."
+-- A number past the elements may stand for an individual too: no break is at one, so what is shown of every choice is shown of these.
 pub record Choice : Type 0 where
   pub sets : ℕ → ℕ → Bool  -- concept, element
   pub individuals : ℕ → ℕ
-
-abbrev pub Chosen : Structure → Choice → Type 0
-Chosen S χ = 0 < S .size → (i : ℕ) → χ .individuals i < S .size
 
 -- ---- concepts
 -- "Top is all elements, Bot none, Atomic those with the class, And those in every operand, Some those with a pair into its body"; the others are as chosen
