@@ -28,12 +28,13 @@ import struct
 import sys
 
 sys.path.insert(0, str(pathlib.Path(__file__).resolve().parent))
-from make_decks import AXIOM_FORMS, BIG, CONCEPT_FORMS, Deck, Reader, Refused, base, deck_w, number, refuse  # noqa: E402
+from make_decks import (AXIOM_FORMS, BIG, CONCEPT_FORMS, Deck, Reader, Refused, base, deck_w, number,  # noqa: E402
+                        refuse)
 
 (TOP, BOT, ATOMIC, NOMINAL, SELF, NOT, AND, OR, SOME, ALL, MIN, MAX) = range(12)
 (SUB_CLASS, EQUIVALENT, DISJOINT, UNION, SUB_ROLE, CHAIN, SAME_ROLES, DISJOINT_ROLES, INVERSE_ROLES, DOMAIN, RANGE,
- TRANSITIVE, SYMMETRIC, ASYMMETRIC, REFLEXIVE, IRREFLEXIVE, FUNCTIONAL, INVERSE_FUNCTIONAL, CLASS_OF, ROLE_OF, NOT_ROLE_OF,
- SAME, DIFFERENT, A_CLASS, A_ROLE, AN_INDIVIDUAL) = range(26)
+ TRANSITIVE, SYMMETRIC, ASYMMETRIC, REFLEXIVE, IRREFLEXIVE, FUNCTIONAL, INVERSE_FUNCTIONAL, CLASS_OF, ROLE_OF,
+ NOT_ROLE_OF, SAME, DIFFERENT, A_CLASS, A_ROLE, AN_INDIVIDUAL) = range(26)
 NEVER_JUDGED = (UNION, DISJOINT_ROLES) + tuple(range(ASYMMETRIC, DIFFERENT + 1))
 DECLARATIONS = (A_CLASS, A_ROLE, AN_INDIVIDUAL)
 
@@ -375,9 +376,9 @@ def specimens():
     """The starred rows of document 01. Element 0 is {0}, element 1 is {0, 1}, with an edge from 1 to 0."""
     def extended():
         d = Made()
-        w = deck_w()
-        d.classes, d.roles, d.concepts, d.axioms, d.facts, d.lists = w.classes, w.roles, w.concepts, w.axioms, w.facts, w.lists
-        d.no = d.concept(NOT, 0)
+        for part, value in vars(deck_w()).items():
+            setattr(d, part, value)
+        d.concept(NOT, 0)
         return d
 
     lent = Lent([1, 3], 2, [(0, 1, 0)], 1)
@@ -463,6 +464,18 @@ def constructs():
     case('some-false-then-true', d, lend(d, [(), (), (0,)], (0, 0, 1), (0, 0, 2)), 'tff')
     case('some-true-then-false', d, lend(d, [(), (0,), ()], (0, 0, 1), (0, 0, 2)), 'tff')
     case('some-repeated-edges', d, lend(d, [(), (0,)], (0, 0, 1), (0, 0, 1), (0, 0, 1)), 'tf')
+    # Deep nesting, and Ands that list the one before them twice.
+    for name, tag, bottom, judged in (('and', AND, (ATOMIC, 0), 'tf'), ('and-unresolved', AND, (NOMINAL, 0), '33'),
+                                      ('some', SOME, (ATOMIC, 0), 'tf'), ('some-unresolved', SOME, (NOMINAL, 0), '33')):
+        d = Made(1)
+        d.concept(*bottom)
+        for body in range(300):
+            d.concept(tag, *([[body]] if tag == AND else [named(0), body]))
+        case('nested-300-' + name, d, lend(d, [(0,), ()], (0, 0, 0), (0, 1, 1)), judged)
+    d = Made(1).atoms()
+    for body in range(10):
+        d.concept(AND, [body, body])
+    case('and-shared', d, lend(d, [(0,), ()]), 'tf tf')
     # Cardinalities, individuals and inverse words of any value are unresolved all the same.
     d = Made(1).atoms()
     for fields in ((NOMINAL, 0), (NOMINAL, BIG), (SELF, 1), (SOME, 1, 0), (ALL, 0, 0), (ALL, 1, 0), (MIN, 0, 0, 0),
@@ -682,10 +695,9 @@ def domains():
          fails(1), fails(0), fails(1), fails(0), HOLDS, fails(0), fails(0),
          HOLDS, fails(2), no, fails(2), HOLDS, fails(2), fails(2),
          fails(3), fails(2), fails(3), fails(2), HOLDS, fails(3), fails(3))
-    # The last pair's tag counts. Concept And(Or, ..) would name one tag, so the tags come from two elements.
+    # A concept names one tag wherever it is unresolved (reading 34), so there is no first and last pair to tell apart.
     d = Made(2).atoms()
     no, either = d.concept(NOT, 0), d.concept(OR, [])
-    d.concept(SOME, named(0), no)
     d.axiom(DOMAIN, 0, no)
     d.axiom(RANGE, 0, either)
     d.axiom(DOMAIN, 0, d.concept(AND, [0, no]))
@@ -864,7 +876,8 @@ def foreign():
             edges[place] = edge
             refused('foreign-%s-%d' % (what, place), 10, d, good._replace(edges=edges))
             if place == 2:
-                case('foreign-%s-not-used' % what, d, good._replace(edges=edges, edge_count=2), 'tff ftf', HOLDS, fails(0))
+                unused = good._replace(edges=edges, edge_count=2)
+                case('foreign-%s-not-used' % what, d, unused, 'tff ftf', HOLDS, fails(0))
     refused('foreign-edge-count', 10, d, good._replace(edge_count=4))
     refused('foreign-edge-count-largest', 10, d, good._replace(edge_count=BIG))
     refused('foreign-edge-count-no-edges-lent', 10, d, good._replace(edges=[], edge_count=1))
@@ -925,11 +938,11 @@ def absent():
 # --- Random decks and structures ------------------------------------------------------------------------------------
 
 # How often a tag is drawn.
-CONCEPT_DRAWS = ((TOP, 1), (BOT, 1), (ATOMIC, 6), (NOMINAL, 1), (SELF, 1), (NOT, 2), (AND, 8), (OR, 2), (SOME, 9), (ALL, 1),
-                 (MIN, 1), (MAX, 1))
-AXIOM_DRAWS = [(tag, 1) for tag in range(26)] + [(SUB_CLASS, 9), (EQUIVALENT, 8), (DISJOINT, 8), (SUB_ROLE, 5), (CHAIN, 9),
-                                                (SAME_ROLES, 5), (INVERSE_ROLES, 2), (DOMAIN, 5), (RANGE, 5),
-                                                (TRANSITIVE, 4), (SYMMETRIC, 2)]
+CONCEPT_DRAWS = ((TOP, 1), (BOT, 1), (ATOMIC, 6), (NOMINAL, 1), (SELF, 1), (NOT, 2), (AND, 8), (OR, 2), (SOME, 9),
+                 (ALL, 1), (MIN, 1), (MAX, 1))
+AXIOM_DRAWS = [(tag, 1) for tag in range(26)] + [
+    (SUB_CLASS, 9), (EQUIVALENT, 8), (DISJOINT, 8), (SUB_ROLE, 5), (CHAIN, 9), (SAME_ROLES, 5), (INVERSE_ROLES, 2),
+    (DOMAIN, 5), (RANGE, 5), (TRANSITIVE, 4), (SYMMETRIC, 2)]
 
 
 def draw(rng, draws):
@@ -947,8 +960,8 @@ def random_deck(rng, tags=()):
         return 2 * rng.randrange(r) + int(rng.random() < inverse_often)
 
     def field(kind, count):
-        return {'c': lambda: rng.randrange(count), 'k': lambda: rng.randrange(n), 'r': lambda: rng.randrange(r), 'w': word,
-                'n': lambda: rng.choice((0, 1, 2, BIG))}[kind]()
+        return {'c': lambda: rng.randrange(count), 'k': lambda: rng.randrange(n), 'r': lambda: rng.randrange(r),
+                'w': word, 'n': lambda: rng.choice((0, 1, 2, BIG))}[kind]()
 
     def fields(form, count, lengths):
         made = []
@@ -1051,7 +1064,8 @@ def damaged_worlds():
             elif labels:
                 labels.pop()
         near = Lent(labels, elements, edges, edge_count)
-        ask = Ask(rng.randrange(len(d.concepts) + 1), 1, rng.randrange(elements + 1), 1, rng.randrange(len(d.axioms) + 1), 1)
+        concept, element, axiom = (rng.randrange(count + 1) for count in (len(d.concepts), elements, len(d.axioms)))
+        ask = Ask(concept, 1, element, 1, axiom, 1)
         add('damaged-%d' % k, d, near, ask)
 
 

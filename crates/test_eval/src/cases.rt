@@ -1,8 +1,6 @@
 // Expands a case into the memory that is lent (main.rt has the case's form). Words past the end of
 // that memory are left out.
 use crate::numbers::number_at;
-ghost use Prim.Native.Nat.{_≤_};
-ghost use lib.ListN.{length};
 
 // The lengths that the case says, and the place after what was expanded.
 pub struct Case {

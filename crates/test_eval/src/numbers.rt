@@ -1,6 +1,6 @@
 // The numbers of the input. One below 255 is a byte; any other is the byte 255 and four bytes, low
 // byte first. Places are counted in bytes.
-ghost use Prim.Native.Nat.{_+_, _<_, _≤_};
+ghost use Prim.Native.Nat.{_+_, _<_};
 ghost use lib.ListN.{length};
 
 // A number, and the place after it.
