@@ -1,0 +1,160 @@
+-- Seeding: what the loop keeps, which labels there are, and the element of a satisfiable real class.
+-- Assumes nothing.
+use mathlib.Core.Path.{_≡_, refl, sym, ap, _∙_}
+use mathlib.Core.Bool.{Bool, true, false, cond}
+use mathlib.Core.List.{List, [], map, List·Memᴰ as Member}
+use mathlib.Core.Logic.{⊎-elim}
+use Prim.Native.Nat.{ℕ, zero, suc, _+_, _≤_, _<_}
+use native.Mathlib.Nat.{eq-or-lt-of-le, le-of-suc-le-suc}
+use native.Mathlib.Numerals.{add-one}
+use native.Mathlib.Omega.{arith}
+use lib.ListN.{length}
+use lib.Dec.{eqb}
+use borrow.Author.Tests.{eq-eqb, ne-eqb, lt-ltb, le-ltb}
+use Rattle.deck.specs.Deck.{Deck, Fact, classAt, classCount, has}
+use Rattle.deck.specs.Sound.{Sound}
+use Rattle.deck.proofs.BelowLaws.{any-stops}
+use Rattle.eval.specs.Lists.{any}
+use Rattle.eval.specs.Lent.{labelWidth, memberIn}
+use Rattle.eval.proofs.ListLaws.{position}
+use Rattle.model.specs.Label.{labelHas, labelOf}
+use Rattle.model.specs.Rows.{put, flat, rowsOf, Wide, none}
+use Rattle.model.specs.Intern.{interned, Placed}
+use Rattle.model.specs.Floor.{hasReal}
+use Rattle.model.specs.Seed.{names, isSeeded, rowLabel, seeds, lastLabel, HasRow}
+use Rattle.model.proofs.LabelLaws.{length-label-of}
+use Rattle.model.proofs.MemberLaws.{has-label}
+use Rattle.model.proofs.FloorLaws.{floor-off, length-floored}
+use Rattle.model.proofs.InternLaws.{Extends, extends-length, extends-at, member-label, interned-wide, interned-grows, Held, held-none, held-intern, interned-keeps, interned-has}
+
+-- ---- which classes
+-- stands for a fact past the count
+abbrev pub noFact : Fact
+noFact = record { from = 0; role = 0; to = 0 }
+
+module _ (k : ℕ) (f : Fact) where
+  pub first-name : f .from ≡ k → true ≡ names k f
+  unfolding names
+  first-name e = rw (eq-eqb _ _ e)
+
+  pub second-name : (f .from ≡ k → ⊥) → eqb (f .to) k ≡ names k f
+  unfolding names
+  second-name n = rw (ne-eqb _ _ n)
+
+module _ (D : Deck) (k : ℕ) where
+  pub seeded-unsatisfiable : classAt D k .unsatisfiable ≡ true → false ≡ isSeeded D k
+  unfolding isSeeded
+  seeded-unsatisfiable h = rw h
+
+  pub seeded-real : classAt D k .unsatisfiable ≡ false → k < D .real → true ≡ isSeeded D k
+  unfolding isSeeded
+  seeded-real h l = rw (h, lt-ltb k (D .real) l)
+
+  pub seeded-fact : classAt D k .unsatisfiable ≡ false → D .real ≤ k → any (map (names k) (D .facts)) ≡ isSeeded D k
+  unfolding isSeeded
+  seeded-fact h l = rw (h, le-ltb k (D .real) l)
+
+-- ---- the label of a class
+pub length-row-label : (D : Deck) (floor : List ℕ) (k : ℕ) → length (rowLabel D floor k) ≡ labelWidth D
+unfolding rowLabel
+length-row-label D floor k = length-floored D floor (labelOf (labelWidth D) (classAt D k .row)) ∙ length-label-of (labelWidth D) (classAt D k .row)
+
+-- ---- the loop
+module _ (D : Deck) (floor : List ℕ) where
+  seeds-take : (k : ℕ) → isSeeded D k ≡ true → seeds D floor (k + 1) ≡ interned (seeds D floor k) (rowLabel D floor k)
+  unfolding seeds
+  seeds-take k h = rw (add-one, h)
+
+  seeds-skip : (k : ℕ) → isSeeded D k ≡ false → seeds D floor (k + 1) ≡ seeds D floor k
+  unfolding seeds
+  seeds-skip k h = rw (add-one, h)
+
+  by-cond : {A : Type 0} (P : A → Type 0) (b : Bool) (x y : A) → P x → P y → P (cond b x y)
+  by-cond P true x y p q = p
+  by-cond P false x y p q = q
+
+  pub seeds-wide : (k : ℕ) → Wide (labelWidth D) (seeds D floor k)
+  unfolding seeds
+  seeds-wide zero = none
+  seeds-wide (suc k) =
+      let s = seeds D floor k in
+      by-cond (Wide (labelWidth D)) (isSeeded D k) (interned s (rowLabel D floor k)) s
+      (interned-wide (rowLabel D floor k) (seeds-wide k) (length-row-label D floor k)) (seeds-wide k)
+
+  -- at most one element a class
+  pub seeds-few : (k : ℕ) → length (seeds D floor k) ≤ k
+  unfolding seeds
+  seeds-few zero = omega arith
+  seeds-few (suc k) =
+      let s = seeds D floor k in
+      let l = rowLabel D floor k in
+      by-cond (λ (r : List (List ℕ)). length r ≤ suc k) (isSeeded D k) (interned s l) s
+      (omega (arith, seeds-few k, interned-grows s l .1)) (omega (arith, seeds-few k))
+
+  module _ (l : List ℕ) where
+    pub last-none : l ≡ lastLabel D floor l 0
+    unfolding lastLabel
+    last-none = refl
+
+    pub last-take : (k : ℕ) → isSeeded D k ≡ true → rowLabel D floor k ≡ lastLabel D floor l (k + 1)
+    unfolding lastLabel
+    last-take k h = rw (add-one, h)
+
+    pub last-skip : (k : ℕ) → isSeeded D k ≡ false → lastLabel D floor l k ≡ lastLabel D floor l (k + 1)
+    unfolding lastLabel
+    last-skip k h = rw (add-one, h)
+
+  module _ (buf : List ℕ) where
+    pub seed-start : Held (labelWidth D) buf buf 0 (seeds D floor 0)
+    unfolding seeds
+    seed-start = held-none (labelWidth D) buf
+
+    pub seed-more : (b exit : List ℕ) (n e m k : ℕ) → Held (labelWidth D) buf b n (seeds D floor k) → isSeeded D k ≡ true
+        → Placed b exit (rowsOf (labelWidth D) n b) (rowLabel D floor k) e m → Held (labelWidth D) buf exit m (seeds D floor (k + 1))
+    seed-more b exit n e m k h s p = rw (seeds-take k s) (held-intern h _ exit e m (length-row-label D floor k) p)
+
+    pub seed-skip : (b : List ℕ) (n k : ℕ) → Held (labelWidth D) buf b n (seeds D floor k) → isSeeded D k ≡ false → Held (labelWidth D) buf b n (seeds D floor (k + 1))
+    seed-skip b n k h s = rw (seeds-skip k s) h
+
+    pub held-few : (b : List ℕ) (n k : ℕ) → Held (labelWidth D) buf b n (seeds D floor k) → n ≤ k
+    held-few b n k h = omega (arith, h .count, seeds-few k)
+
+  -- ---- every seeded class has its label among the seeds
+  pub all-seeded : (n k : ℕ) → k < n → isSeeded D k ≡ true → Member (rowLabel D floor k) (seeds D floor n)
+  unfolding seeds
+  all-seeded zero k h s = absurd (omega (arith, h))
+  all-seeded (suc n) k h s =
+      ⊎-elim (λ (e : k ≡ n). rw (rw e at s, e) (interned-has (seeds D floor n) (rowLabel D floor n)))
+      (λ (b : k < n).
+      by-cond (Member (rowLabel D floor k)) (isSeeded D n) (interned (seeds D floor n) (rowLabel D floor n)) (seeds D floor n)
+      (interned-keeps (seeds D floor n) _ _ (all-seeded n k b s)) (all-seeded n k b s))
+      (eq-or-lt-of-le (le-of-suc-le-suc h))
+
+  -- ---- a satisfiable real class is in its own row and below M: its label takes no floor
+  module _ (W : Sound D) (c : ℕ) (r : c < D .real) (s : classAt D c .unsatisfiable ≡ false) where
+    in-row : (d : ℕ) → labelHas (labelOf (labelWidth D) (classAt D c .row)) d ≡ has (classAt D c .row) d
+    in-row d =
+        let n : c < classCount D = omega (arith, W .real) in
+        has-label (labelWidth D) (classAt D c .row) d (λ (i : ℕ) (b : i < length (classAt D c .row)). omega (arith, W .classes c n .below i b))
+
+    real-label : rowLabel D floor c ≡ labelOf (labelWidth D) (classAt D c .row)
+    unfolding rowLabel hasReal
+    real-label =
+        let n : c < classCount D = omega (arith, W .real) in
+        floor-off D floor (labelOf (labelWidth D) (classAt D c .row)) (any-stops _ c (D .real) r (in-row c ∙ W .classes c n .own s))
+
+    pub real-seed : HasRow D (seeds D floor (classCount D)) c
+    real-seed =
+        let n : c < classCount D = omega (arith, W .real) in
+        let p = position [] (rowLabel D floor c) (seeds D floor (classCount D)) (all-seeded (classCount D) c n (sym (seeded-real D c s r))) in
+        record { element = p .0; below = p .1; exact = λ d. ap (λ (l : List ℕ). labelHas l d) (p .2 ∙ real-label) ∙ in-row d }
+
+-- what was interned or appended later keeps it
+pub row-kept : (D : Deck) {ls ms : List (List ℕ)} {c : ℕ} → Extends ls ms → HasRow D ls c → HasRow D ms c
+row-kept D x h =
+    record { element = h .element; below = omega (arith, h .below, extends-length x); exact = λ d. ap (λ (l : List ℕ). labelHas l d) (extends-at x (h .element) (h .below)) ∙ h .exact d }
+
+-- in the structure that the buffer holds
+pub row-member : (D : Deck) {ls : List (List ℕ)} {c : ℕ} → Wide (labelWidth D) ls → (h : HasRow D ls c) → (buf : List ℕ) (d : ℕ) → d < classCount D
+    → memberIn (put buf (flat ls)) (labelWidth D) (h .element) d ≡ has (classAt D c .row) d
+row-member D w h buf d b = member-label w buf (h .element) d (h .below) (omega arith) ∙ h .exact d

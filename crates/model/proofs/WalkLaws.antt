@@ -1,0 +1,53 @@
+-- Laws of `walk`, and one record for every loop that walks a list: On.
+use mathlib.Core.Bool.{true, false}
+use Prim.Native.Nat.{ℕ}
+use mathlib.Core.Path.{_≡_, refl, sym, ap, _∙_}
+use mathlib.Core.List.{List, [], _∷_, map, List·Memᴰ as Member, List·Memᴰ·head as here, List·Memᴰ·tail as there}
+use Rattle.model.specs.declared.tally.Tally.{Tally}
+use Rattle.model.specs.declared.tally.Step.{Step}
+use Rattle.model.specs.Push.{State, quiet, start, Left, Room}
+use Rattle.model.specs.Closing.{walk}
+use Rattle.model.proofs.PushLaws.{left-same, left-trans, left-is, left-start, left-quiet, left-tripped}
+
+-- what every step keeps, the walk keeps
+pub walk-keeps : {A S : Type 0} (Q : S → Type 0) (f : A → S → S) (xs : List A) → ((x : A) → Member x xs → (s : S) → Q s → Q (f x s)) → (s : S) → Q s → Q (walk f xs s)
+unfolding walk
+walk-keeps Q f [] h s q = q
+walk-keeps Q f (x ∷ xs) h s q = walk-keeps Q f xs (λ y i. h y (there i)) (f x s) (h x (here refl) s q)
+
+-- a state that no step changes, the walk does not change
+pub walk-fixed : {A S : Type 0} (f : A → S → S) (xs : List A) (s : S) → ((x : A) → f x s ≡ s) → walk f xs s ≡ s
+unfolding walk
+walk-fixed f [] s h = refl
+walk-fixed f (x ∷ xs) s h = rw (h x) (walk-fixed f xs s h)
+
+-- a walk over images
+pub walk-map : {A B S : Type 0} (f : B → S → S) (g : A → B) (xs : List A) (s : S) → walk f (map g xs) s ≡ walk (λ x. f (g x)) xs s
+unfolding walk
+walk-map f g [] s = refl
+walk-map f g (x ∷ xs) s = walk-map f g xs (f (g x) s)
+
+-- a walk over `all` has come to `rest`, and the buffers hold where it is
+pub record On (limit : ℕ) {A : Type 0} (f : A → State → State) (all rest : List A) (was : List (List ℕ)) (log : List ℕ) (t : Tally) (now : List (List ℕ)) (log′ : List ℕ) (held : Tally) : Type 0 where
+  pub left : Left limit was log t now log′ (quiet held) (start now log′ held)
+  pub goes : walk f all (start was log t) ≡ walk f rest (start now log′ held)
+
+module _ {limit : ℕ} {A : Type 0} {f : A → State → State} {all : List A} {was : List (List ℕ)} {log : List ℕ} {t : Tally} where
+  pub on-start : Room limit was (t .edges) → On limit f all all was log t was log t
+  on-start R = record { left = left-same limit was log t R; goes = refl }
+
+  module _ {rest : List A} {now : List (List ℕ)} {log′ : List ℕ} {held : Tally} (G : On limit f all rest was log t now log′ held) where
+    pub on-done : rest ≡ [] → Left limit was log t now log′ (quiet held) (walk f all (start was log t))
+    unfolding walk
+    on-done q = left-is (G .left) (sym (G .goes ∙ rw q))
+
+    module _ {x : A} {more : List A} (q : rest ≡ x ∷ more) {new : List (List ℕ)} {log″ : List ℕ} {r : Step} (L : Left limit now log′ held new log″ r (f x (start now log′ held))) where
+      next : walk f all (start was log t) ≡ walk f more (f x (start now log′ held))
+      unfolding walk
+      next = G .goes ∙ rw q
+
+      pub on-stop : ((y : A) (u : State) → u .tripped ≡ true → f y u ≡ u) → r .tripped ≡ true → Left limit was log t new log″ r (walk f all (start was log t))
+      on-stop stuck w = left-is (left-trans (G .left) L) (sym (next ∙ walk-fixed f more (f x (start now log′ held)) (λ y. stuck y _ (left-tripped L ∙ w))))
+
+      pub on-next : r .tripped ≡ false → On limit f all more was log t new log″ (r .tally)
+      on-next w = record { left = left-quiet (left-trans (G .left) L) w; goes = next ∙ ap (walk f more) (sym (left-start L w)) }

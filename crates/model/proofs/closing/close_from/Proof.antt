@@ -1,0 +1,120 @@
+use Rattle.model.proofs.CloseLaws.{join-stuck, join-same}
+use borrow.Author.Needs.{needs}
+use native.Mathlib.Omega.{arith}
+use Prim.Native.Nat.{_+_, _-_, _*_, _/_, _%_}
+use mathlib.Core.Path.{_≡_, refl, _∙_}
+use Rattle.deck.specs.Content.{deckOf}
+use Rattle.model.specs.Pairs.{pairOf}
+use Rattle.model.specs.Closing.{join}
+use Rattle.model.proofs.PushLaws.{left-is, left-room}
+use Rattle.model.proofs.KeyLaws.{from-keys, fits-ends}
+use Rattle.model.proofs.GoingLaws.{Going, going-start, going-done, going-stop, going-next, going-past, going-below}
+use Rattle.model.proofs.closing.close_from.Statement.{statement}
+use Rattle.model.proofs.closing.close_from.Tie as tie
+use Rattle.model.proofs.closing.close_from.Reads as reads
+use Rattle.model.proofs.closing.close_from.Lts as lts
+use Rattle.model.proofs.closing.join.Reads as join-reads
+use Rattle.model.proofs.pairs.next_pair.Reads as next-pair-reads
+
+abbrev Inv-loop : tie.InvT-loop
+Inv-loop deck limit edges₀ log₀ t b v k x from end after₀ held₀ edges log after held = Going (deckOf deck) limit (λ j. join (deckOf deck) (t .elements) limit (v .0) (k / 65536) (j % 65536)) (b .0) from end edges₀ log₀ t edges log held after
+
+abbrev μ-loop : tie.MeasureT-loop
+μ-loop deck limit edges₀ log₀ t b v k x from end after₀ held₀ edges log after held = end - after
+
+cast-x : tie.Need-cast-x Inv-loop μ-loop
+cast-x c = let z = c .before .before in omega (arith, z .pre .0 .few, z .pre .1 .1 .1)
+
+mul-from : tie.Need-mul-from Inv-loop μ-loop
+mul-from c = omega arith
+
+cast-end : tie.Need-cast-end Inv-loop μ-loop
+cast-end c = omega arith
+
+add-end : tie.Need-add-end Inv-loop μ-loop
+add-end c = omega arith
+
+loop-holds : tie.Need-loop-holds Inv-loop μ-loop
+loop-holds c = going-start _ _ _ _ _ _ _ _ _ (c .before .before .before .pre .0 .space) (omega arith)
+
+next-pair-requires : tie.Need-next-pair-requires Inv-loop μ-loop
+next-pair-requires c κs =
+    let R = c .before .before .before .before .before .pre .0 in
+    let G = c .before .loop .inv in
+    (R .accepted, (c .before .before .before .before .before .pre .1 .0, (omega (arith, G .on .left .size, R .space .bound, R .space .room), (rw (G .on .left .old) (fits-ends _ _ (R .few) _ (R .fits)), G .le))))
+
+enum-known-found : tie.Need-enum-known-found Inv-loop μ-loop
+enum-known-found c = search needs
+
+enum-told : tie.Need-enum-told Inv-loop μ-loop
+enum-told c = search needs
+
+same-length : tie.Need-same-length Inv-loop μ-loop
+same-length c = c .before .before .before .before .loop .inv .on .left .size
+
+same-length-2 : tie.Need-same-length-2 Inv-loop μ-loop
+same-length-2 c = c .before .before .before .before .loop .inv .on .left .log-size
+
+returns : tie.Need-returns Inv-loop μ-loop
+returns c =
+    let z = c .before .before .before .before .before .before .before .before in
+    let n : z .args .k % 65536 * 65536 + z .args .t .elements - z .args .k % 65536 * 65536 ≡ z .args .t .elements = omega arith in
+    left-is (rw n at (going-done _ _ _ _ _ _ _ _ _ (c .before .before .before .before .loop .inv) (c .before .before .next-pair .ensures) (c .enum-told .given .1))) (from-keys _ _ _ (z .pre .0 .few) _ _ _ (pairOf (z .args .k)))
+
+cast-z : tie.Need-cast-z Inv-loop μ-loop
+cast-z c = omega arith
+
+join-requires : tie.Need-join-requires Inv-loop μ-loop
+join-requires c κs = let R = c .before .before .before .before .before .before .before .before .before .before .before .pre .0 in (R .accepted, (left-room (c .before .before .before .before .before .before .before .loop .inv .on .left) (R .space) refl, c .before .before .before .before .before .before .before .before .before .before .before .pre .1 .1 .0))
+
+same-length-3 : tie.Need-same-length-3 Inv-loop μ-loop
+same-length-3 c = c .before .before .before .before .join .ensures .size ∙ c .before .before .before .before .before .before .before .before .before .before .before .before .loop .inv .on .left .size
+
+same-length-4 : tie.Need-same-length-4 Inv-loop μ-loop
+same-length-4 c = c .before .before .before .before .join .ensures .log-size ∙ c .before .before .before .before .before .before .before .before .before .before .before .before .loop .inv .on .left .log-size
+
+returns-2 : tie.Need-returns-2 Inv-loop μ-loop
+returns-2 c =
+    let z = c .before .before .before .before .before .before .before .before .before .before .before .before .before .before .before .before in
+    let G = c .before .before .before .before .before .before .before .before .before .before .before .before .loop .inv in
+    let n : z .args .k % 65536 * 65536 + z .args .t .elements - z .args .k % 65536 * 65536 ≡ z .args .t .elements = omega arith in
+    left-is (rw n at (going-stop _ _ _ _ _ _ _ _ _ G (c .before .before .before .before .before .before .before .before .before .before .next-pair .ensures) (c .before .before .before .before .before .before .before .before .found .given .1) (left-is (c .before .before .before .before .join .ensures) (join-same _ _ (G .on .left .elements) _ _ _ _)) (λ i u e. join-stuck _ _ _ _ _ _ u e) (c .if1 .taken))) (from-keys _ _ _ (z .pre .0 .few) _ _ _ (pairOf (z .args .k)))
+
+add-after : tie.Need-add-after Inv-loop μ-loop
+add-after c = omega (arith, going-below _ _ _ _ _ _ _ _ _ (c .before .before .before .before .before .before .before .before .before .before .before .before .before .loop .inv) (c .before .before .before .before .before .before .before .before .before .before .before .next-pair .ensures) (c .before .before .before .before .before .before .before .before .before .found .given .1))
+
+loop-less : tie.Need-loop-less Inv-loop μ-loop
+loop-less c =
+    let G = c .before .before .before .before .before .before .before .before .before .before .before .before .before .loop .inv in
+    omega (arith, going-below _ _ _ _ _ _ _ _ _ G (c .before .before .before .before .before .before .before .before .before .before .before .next-pair .ensures) (c .before .before .before .before .before .before .before .before .before .found .given .1), going-past _ _ _ _ _ _ _ _ _ G (c .before .before .before .before .before .before .before .before .before .before .before .next-pair .ensures) (c .before .before .before .before .before .before .before .before .before .found .given .1))
+
+loop-again : tie.Need-loop-again Inv-loop μ-loop
+loop-again c =
+    let G = c .before .before .before .before .before .before .before .before .before .before .before .before .before .loop .inv in
+    going-next _ _ _ _ _ _ _ _ _ G (c .before .before .before .before .before .before .before .before .before .before .before .next-pair .ensures) (c .before .before .before .before .before .before .before .before .before .found .given .1) (left-is (c .before .before .before .before .before .join .ensures) (join-same _ _ (G .on .left .elements) _ _ _ _)) (c .before .if1 .left)
+
+pub close-from-spec : {M : Type 1} → statement M
+close-from-spec =
+    tie.close
+    (tie.spec
+    Inv-loop
+    μ-loop
+    cast-x
+    mul-from
+    cast-end
+    add-end
+    loop-holds
+    next-pair-requires
+    enum-known-found
+    enum-told
+    same-length
+    same-length-2
+    returns
+    cast-z
+    join-requires
+    same-length-3
+    same-length-4
+    returns-2
+    add-after
+    loop-less
+    loop-again)

@@ -1,0 +1,68 @@
+use Prim.Native.Nat.{ℕ, _*_, _-_, _≤_, _<_}
+use mathlib.Core.Path.{_≡_, sym, _∙_}
+use native.Mathlib.Omega.{arith}
+use borrow.Author.Needs.{needs}
+use denote.Ref.{now}
+use mathlib.Core.Bool.{false}
+use borrow.Author.Count.{below-none, below-more}
+use lib.ListN.{length}
+use Rattle.model.specs.Label.{sameLabel}
+use Rattle.model.specs.Rows.{rowAt}
+use Rattle.model.proofs.InternLaws.{row-found, row-none}
+use Rattle.model.proofs.intern.find.Statement.{statement}
+use Rattle.model.proofs.intern.find.Tie as tie
+
+abbrev Inv-loop : tie.InvT-loop
+Inv-loop labels elements label e₀ e = (e ≤ elements) × ((k : ℕ) → k < e → sameLabel (rowAt (length label) labels (k * length label)) label ≡ false)
+
+abbrev μ-loop : tie.MeasureT-loop
+μ-loop labels elements label e₀ e = elements - e
+
+loop-holds : tie.Need-loop-holds Inv-loop μ-loop
+loop-holds c = (omega arith, below-none _)
+
+cast-row-start : tie.Need-cast-row-start Inv-loop μ-loop
+cast-row-start c = search needs
+
+row-start-requires : tie.Need-row-start-requires Inv-loop μ-loop
+row-start-requires c κs = search needs
+
+same-label-requires : tie.Need-same-label-requires Inv-loop μ-loop
+same-label-requires c κs = search needs
+
+returns : tie.Need-returns Inv-loop μ-loop
+returns c =
+    let z = c .before .before .before .before in
+    sym (row-found _ _ _ _ (z .loop .e) (omega arith) (z .loop .inv .1) (rw (c .before .before .row-start .ensures .0) at (sym (c .before .same-label .ensures) ∙ c .if1 .taken)))
+
+add-e : tie.Need-add-e Inv-loop μ-loop
+add-e c = search needs
+
+loop-less : tie.Need-loop-less Inv-loop μ-loop
+loop-less c = search needs
+
+loop-again : tie.Need-loop-again Inv-loop μ-loop
+loop-again c =
+    let z = c .before .before .before .before in
+    (omega arith, below-more _ _ (z .loop .inv .1) (rw (c .before .before .row-start .ensures .0) at (sym (c .before .same-label .ensures) ∙ c .if1 .left)))
+
+returns-2 : tie.Need-returns-2 Inv-loop μ-loop
+returns-2 c =
+    let a = c .before .before .before .before .args in
+    sym (row-none (length (now (a .label))) (a .elements) (now (a .labels)) (now (a .label)) (λ (k : ℕ) (b : k < a .elements). c .before .loop .inv .1 k (omega arith)))
+
+pub find-spec : {M : Type 1} → statement M
+find-spec =
+    tie.close
+    (tie.spec
+    Inv-loop
+    μ-loop
+    loop-holds
+    cast-row-start
+    row-start-requires
+    same-label-requires
+    returns
+    add-e
+    loop-less
+    loop-again
+    returns-2)

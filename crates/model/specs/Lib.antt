@@ -1,0 +1,10 @@
+pub mod Label
+pub mod Rows
+pub mod Intern
+pub mod Floor
+pub mod Seed
+pub mod Reasons
+pub mod Push
+pub mod Pairs
+pub mod Rules
+pub mod Closing

@@ -1,0 +1,36 @@
+// The log of reasons: three words a reason.
+ghost use mathlib.Core.Path.{_≡_};
+ghost use Prim.Native.Nat.{_+_, _*_, _/_, _<_};
+ghost use lib.ListN.{length};
+ghost use Rattle.model.specs.Reasons.{put, noted, counted};
+
+// 1 LabelNotClosed, 2 RunDelta, 3 BoundTripped or 4 AxiomsDroppedAtConversion, and two words.
+pub struct Reason {
+    pub kind: u32,
+    pub first: u32,
+    pub second: u32,
+}
+
+// Reason n of the log becomes r.
+fn store(log: &mut [u32], n: usize, r: Reason)
+    requires { ⌜ n < length (now log) / 3 ⌝ }
+    ensures { λ _. ⌜ now (log .exit) ≡ put (now (log .entry)) n r ⌝ }
+{
+    log[n * 3] = r.kind;
+    log[n * 3 + 1] = r.first;
+    log[n * 3 + 2] = r.second;
+}
+
+// One more reason, where `total` were given; the new total.
+pub fn note(log: &mut [u32], total: u32, r: Reason) -> u32
+    ensures { λ t. ⌜ (now (log .exit) ≡ noted (now (log .entry)) total r) × (t ≡ counted total) ⌝ }
+{
+    if total < 4294967295 {
+        if (total as usize) < log.len() / 3 {
+            store(log, total as usize, r);
+            return total + 1;
+        }
+        return total + 1;
+    }
+    total
+}
