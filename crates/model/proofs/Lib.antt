@@ -16,3 +16,4 @@ pub mod KeyLaws
 pub mod GoingLaws
 pub mod Closed
 pub mod ClosingSpecimens
+pub mod TargetLaws

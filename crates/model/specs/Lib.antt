@@ -8,3 +8,4 @@ pub mod Push
 pub mod Pairs
 pub mod Rules
 pub mod Closing
+pub mod Target
