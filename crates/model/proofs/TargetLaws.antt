@@ -10,8 +10,8 @@ use Rattle.deck.specs.Reads.{RealClass}
 use Rattle.deck.specs.declared.numbers.ClassId.{ClassId}
 use Rattle.deck.specs.declared.injected.InjectedClass.{InjectedClass}
 use Rattle.deck.specs.declared.injected.InjectedClass.the-variants.{Found, Absent}
-use Rattle.model.specs.declared.target.Target.{Target}
-use Rattle.model.specs.declared.target.Target.the-variants.{Row, Delta, NotClosed}
+use Rattle.model.specs.declared.target_label.Target.{Target}
+use Rattle.model.specs.declared.target_label.Target.the-variants.{Row, Delta, NotClosed}
 use Rattle.model.specs.Target.{holdsRange, byInjected, targetOf, TargetFits}
 
 module _ (D : Deck) (y : ℕ) where

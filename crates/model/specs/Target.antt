@@ -7,8 +7,8 @@ use Rattle.deck.specs.declared.numbers.ClassId.{ClassId}
 use Rattle.deck.specs.declared.injected.InjectedClass.{InjectedClass}
 use Rattle.deck.specs.declared.injected.InjectedClass.the-variants.{Found, Absent}
 use Rattle.eval.specs.Lists.{every}
-use Rattle.model.specs.declared.target.Target.{Target}
-use Rattle.model.specs.declared.target.Target.the-variants.{Row, Delta, NotClosed}
+use Rattle.model.specs.declared.target_label.Target.{Target}
+use Rattle.model.specs.declared.target_label.Target.the-variants.{Row, Delta, NotClosed}
 
 -- "if that holds every class of r's range row"
 unfoldable pub holdsRange : Deck → ℕ → ℕ → Bool

@@ -11,4 +11,4 @@ pub mod rules;
 pub mod seed;
 pub mod subsumers;
 pub mod tally;
-pub mod target;
+pub mod target_label;
