@@ -27,7 +27,8 @@ use Rattle.model.specs.declared.tally.Tally.{Tally}
 use Rattle.model.specs.declared.tally.Step.{Step}
 use Rattle.model.specs.Push.{State, edge, added, pushEdge, Left}
 use Rattle.model.specs.Rules.{ruleOf, RuleFits}
-use Rattle.model.specs.Closing.{walk, graph, join, closeFrom, closeRule, closeBy, closeAxiom, closePass, EdgesFit, Ready}
+use Rattle.model.specs.Walk.{walk}
+use Rattle.model.specs.Closing.{graph, join, closeFrom, closeRule, closeBy, closeAxiom, closePass, EdgesFit, Ready}
 use Rattle.model.proofs.PushLaws.{left-room, left-edges}
 use Rattle.model.proofs.WalkLaws.{walk-keeps, walk-fixed}
 

@@ -9,7 +9,8 @@ use Rattle.eval.specs.Edges.{edgeIn}
 use Rattle.model.specs.Reasons.{noted, counted}
 use Rattle.model.specs.Push.{State, edge, pushEdge}
 use Rattle.model.specs.Rules.{ruleOf}
-use Rattle.model.specs.Closing.{walk, join, closeFrom, closeRule, closeAxiom, closePass, closing, close}
+use Rattle.model.specs.Walk.{walk}
+use Rattle.model.specs.Closing.{join, closeFrom, closeRule, closeAxiom, closePass, closing, close}
 
 -- role 0 is transitive, and role 1, which has both in its row, then role 0 makes role 1; an inverse word makes no rule
 abbrev deck : Deck

@@ -13,7 +13,7 @@ use Rattle.model.specs.declared.tally.Tally.{Tally}
 use Rattle.model.specs.declared.tally.Step.{Step}
 use Rattle.model.specs.Pairs.{linkKey, first}
 use Rattle.model.specs.Push.{State, quiet, start, Left, Room}
-use Rattle.model.specs.Closing.{walk}
+use Rattle.model.specs.Walk.{walk}
 use Rattle.model.proofs.NextLaws.{next-none, next-from, next-below, next-some}
 use Rattle.model.proofs.WalkLaws.{On, on-start, on-done, on-stop, on-next}
 

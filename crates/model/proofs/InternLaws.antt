@@ -15,7 +15,7 @@ use borrow.Author.Tests.{lt-ltb, le-ltb}
 use Rattle.eval.specs.Lent.{bit, memberIn}
 use Rattle.model.specs.Label.{sameLabel, labelHas}
 use Rattle.model.specs.Rows.{put, flat, rowAt, rowsOf, Wide, none, more}
-use Rattle.model.specs.Intern.{indexOf, interned, Placed}
+use Rattle.model.specs.Intern.{indexOf, interned, Placed, Held}
 use Rattle.model.proofs.RowLaws.{wide-append, length-rows, rows-at, rows-wide, flat-rows, length-flat, put-self, put-put, put-nil, length-put, rows-put, appended}
 
 -- the first row that is the label
@@ -87,12 +87,6 @@ module _ (w n : ℕ) (buf l : List ℕ) (fits : n * w ≤ length buf) (e : ℕ) 
         place = omega (arith, at-e, index-le (rowsOf w n buf) l, length-rows w n buf);
         count = rw k (omega (arith, length-append (rowsOf w n buf) (l ∷ []), length-rows w n buf));
       }
-
--- a buffer that holds n labels of w words, and was buf₀ before
-pub record Held (w : ℕ) (buf₀ buf : List ℕ) (n : ℕ) (ls : List (List ℕ)) : Type 0 where
-  pub is : buf ≡ put buf₀ (flat ls)
-  pub count : n ≡ length ls
-  pub wide : Wide w ls
 
 -- at the start of a phase
 pub held-start : (w n : ℕ) (buf : List ℕ) → n * w ≤ length buf → Held w buf buf n (rowsOf w n buf)

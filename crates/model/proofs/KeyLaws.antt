@@ -11,7 +11,8 @@ use Rattle.eval.specs.Lists.{keep, range}
 use Rattle.eval.specs.Structure.{Pair, pair, hasEdge, successors, pairs}
 use Rattle.model.specs.Push.{State}
 use Rattle.model.specs.Pairs.{pairOf, linkKey, EndsFit}
-use Rattle.model.specs.Closing.{walk, graph, join, closeFrom, closeRule, EdgesFit}
+use Rattle.model.specs.Walk.{walk}
+use Rattle.model.specs.Closing.{graph, join, closeFrom, closeRule, EdgesFit}
 use Rattle.model.proofs.NextLaws.{keep-none}
 use Rattle.model.proofs.WalkLaws.{walk-map}
 use Rattle.model.proofs.CloseLaws.{linked-is, linked-fits}

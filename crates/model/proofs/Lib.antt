@@ -17,3 +17,5 @@ pub mod GoingLaws
 pub mod Closed
 pub mod ClosingSpecimens
 pub mod TargetLaws
+pub mod BuildLaws
+pub mod ExpandLaws

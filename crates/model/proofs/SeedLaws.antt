@@ -19,13 +19,13 @@ use Rattle.eval.specs.Lent.{labelWidth, memberIn}
 use Rattle.eval.proofs.ListLaws.{position}
 use Rattle.model.specs.Label.{labelHas, labelOf}
 use Rattle.model.specs.Rows.{put, flat, rowsOf, Wide, none}
-use Rattle.model.specs.Intern.{interned, Placed}
+use Rattle.model.specs.Intern.{interned, Placed, Held}
 use Rattle.model.specs.Floor.{hasReal}
 use Rattle.model.specs.Seed.{names, isSeeded, rowLabel, seeds, lastLabel, HasRow}
 use Rattle.model.proofs.LabelLaws.{length-label-of}
 use Rattle.model.proofs.MemberLaws.{has-label}
 use Rattle.model.proofs.FloorLaws.{floor-off, length-floored}
-use Rattle.model.proofs.InternLaws.{Extends, extends-length, extends-at, member-label, interned-wide, interned-grows, Held, held-none, held-intern, interned-keeps, interned-has}
+use Rattle.model.proofs.InternLaws.{Extends, extends-length, extends-at, member-label, interned-wide, interned-grows, held-none, held-intern, interned-keeps, interned-has}
 
 -- ---- which classes
 -- stands for a fact past the count

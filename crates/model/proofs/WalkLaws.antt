@@ -6,7 +6,7 @@ use mathlib.Core.List.{List, [], _∷_, map, List·Memᴰ as Member, List·Mem�
 use Rattle.model.specs.declared.tally.Tally.{Tally}
 use Rattle.model.specs.declared.tally.Step.{Step}
 use Rattle.model.specs.Push.{State, quiet, start, Left, Room}
-use Rattle.model.specs.Closing.{walk}
+use Rattle.model.specs.Walk.{walk}
 use Rattle.model.proofs.PushLaws.{left-same, left-trans, left-is, left-start, left-quiet, left-tripped}
 
 -- what every step keeps, the walk keeps

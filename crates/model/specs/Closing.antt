@@ -1,7 +1,7 @@
 -- Closing under chains and transitive roles: document 01, section 3, "`close_chains_and_transitivity`".
 use Prim.Native.Nat.{ℕ, zero, suc, _-_, _≤_}
 use mathlib.Core.Bool.{false, cond, _||_}
-use mathlib.Core.List.{List, [], _∷_, List·Memᴰ as Member}
+use mathlib.Core.List.{List, List·Memᴰ as Member}
 use lib.ListN.{length}
 use lib.Dec.{eqb}
 use Rattle.deck.specs.Deck.{Deck, Axiom}
@@ -15,11 +15,7 @@ use Rattle.model.specs.declared.rules.Rule.the-variants.{Compose, NoRule
 use Rattle.model.specs.declared.tally.Tally.{Tally}
 use Rattle.model.specs.Push.{State, edge, pushEdge, Room}
 use Rattle.model.specs.Rules.{ruleOf}
-
--- a list taken one by one, first to last, with a state
-unfoldable pub walk : {A S : Type 0} → (A → S → S) → List A → S → S
-walk f [] s = s
-walk f (x ∷ xs) s = walk f xs (f x s)
+use Rattle.model.specs.Walk.{walk}
 
 -- "edges(a)", "edges(b)" and "the test for an edge" are those of section 4, over n elements with these edges; labels do not count
 abbrev pub graph : ℕ → List Edge → Structure

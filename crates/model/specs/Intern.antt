@@ -6,7 +6,7 @@ use mathlib.Core.List.{List, [], _∷_, _++_}
 use lib.ListN.{length}
 use lib.Dec.{ltb}
 use Rattle.model.specs.Label.{sameLabel}
-use Rattle.model.specs.Rows.{put, flat}
+use Rattle.model.specs.Rows.{put, flat, Wide}
 
 -- the element of a label: its first place, or the number of labels
 unfoldable pub indexOf : List (List ℕ) → List ℕ → ℕ
@@ -22,3 +22,9 @@ pub record Placed (entry exit : List ℕ) (ls : List (List ℕ)) (l : List ℕ) 
   pub buffer : exit ≡ put entry (flat (interned ls l))
   pub place : element ≡ indexOf ls l
   pub count : elements ≡ length (interned ls l)
+
+-- a buffer that holds n labels of w words, and was buf₀ before
+pub record Held (w : ℕ) (buf₀ buf : List ℕ) (n : ℕ) (ls : List (List ℕ)) : Type 0 where
+  pub is : buf ≡ put buf₀ (flat ls)
+  pub count : n ≡ length ls
+  pub wide : Wide w ls

@@ -7,5 +7,10 @@ pub mod Reasons
 pub mod Push
 pub mod Pairs
 pub mod Rules
+pub mod Walk
 pub mod Closing
 pub mod Target
+pub mod Model
+pub mod Expand
+pub mod Exists
+pub mod Rounds

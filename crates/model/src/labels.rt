@@ -21,12 +21,22 @@ fn or(a: u64, b: u64) -> u64
     a | b
 }
 
-pub fn has_class(label: &[u64], class: ClassId) -> bool
-    requires { ⌜ class .0 / 64 < length (now label) ⌝ }
-    ensures { λ r. ⌜ r ≡ labelHas (now (label .entry)) (class .0) ⌝ }
+// Bit k of the words.
+pub fn has_bit(words: &[u64], k: u32) -> bool
+    requires { ⌜ k / 64 < length (now words) ⌝ }
+    ensures { λ r. ⌜ r ≡ labelHas (now (words .entry)) k ⌝ }
 {
-    let i = class.0 as usize / 64;
-    bit_of(label[i], (class.0 % 64) as u64)
+    let i = k as usize / 64;
+    bit_of(words[i], (k % 64) as u64)
+}
+
+// Bit k of the words becomes 1.
+pub fn insert_bit(words: &mut [u64], k: u32)
+    requires { ⌜ k / 64 < length (now words) ⌝ }
+    ensures { λ _. ⌜ now (words .exit) ≡ insertBit (now (words .entry)) k ⌝ }
+{
+    let i = k as usize / 64;
+    words[i] = with_bit(words[i], (k % 64) as u64);
 }
 
 // The label takes a class in.
@@ -34,8 +44,7 @@ pub fn insert(label: &mut [u64], class: ClassId)
     requires { ⌜ class .0 / 64 < length (now label) ⌝ }
     ensures { λ _. ⌜ now (label .exit) ≡ insertBit (now (label .entry)) (class .0) ⌝ }
 {
-    let i = class.0 as usize / 64;
-    label[i] = with_bit(label[i], (class.0 % 64) as u64);
+    insert_bit(label, class.0);
 }
 
 // The label without a class.

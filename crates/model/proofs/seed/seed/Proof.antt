@@ -7,7 +7,7 @@ use Rattle.deck.specs.Content.{deckOf}
 use Rattle.eval.specs.Lent.{labelWidth}
 use Rattle.model.specs.Seed.{seeds, lastLabel}
 use Rattle.model.proofs.RowLaws.{room-below}
-use Rattle.model.proofs.InternLaws.{Held}
+use Rattle.model.specs.Intern.{Held}
 use Rattle.model.proofs.SeedLaws.{seed-start, seed-more, seed-skip, held-few, last-none, last-take, last-skip}
 use borrow.Author.Needs.{needs}
 use Rattle.model.proofs.seed.seed.Statement.{statement}

@@ -1,10 +1,10 @@
 use Rattle.model.specs.Label.{insertBit}
 use borrow.Author.Needs.{needs}
-use Rattle.model.proofs.labels.insert.Statement.{statement}
-use Rattle.model.proofs.labels.insert.Tie as tie
-
-cast-i : tie.Need-cast-i
-cast-i c = search needs
+use Rattle.model.proofs.labels.insert_bit.Statement.{statement}
+use Rattle.model.proofs.labels.insert_bit.Tie as tie
+use Rattle.model.proofs.labels.insert_bit.Reads as reads
+use Rattle.model.proofs.labels.insert_bit.Lts as lts
+use Rattle.model.proofs.labels.with_bit.Reads as with-bit-reads
 
 mul-with-bit : tie.Need-mul-with-bit
 mul-with-bit c = search needs
@@ -18,11 +18,11 @@ cast-with-bit c = search needs
 with-bit-requires : tie.Need-with-bit-requires
 with-bit-requires c κs = search needs
 
-mul-label : tie.Need-mul-label
-mul-label c = search needs
+mul-words : tie.Need-mul-words
+mul-words c = search needs
 
-slice-write-label : tie.Need-slice-write-label
-slice-write-label c = search needs
+slice-write-words : tie.Need-slice-write-words
+slice-write-words c = search needs
 
 same-length : tie.Need-same-length
 same-length c = search needs
@@ -31,16 +31,15 @@ returns : tie.Need-returns
 unfolding insertBit
 returns c = rw (c .with-bit .ensures)
 
-pub insert-spec : {M : Type 1} → statement M
-insert-spec =
+pub insert-bit-spec : {M : Type 1} → statement M
+insert-bit-spec =
     tie.close
     (tie.spec
-    cast-i
     mul-with-bit
     slice-read-with-bit
     cast-with-bit
     with-bit-requires
-    mul-label
-    slice-write-label
+    mul-words
+    slice-write-words
     same-length
     returns)

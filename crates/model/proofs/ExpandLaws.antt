@@ -1,0 +1,227 @@
+-- Expanding by the facts: case by case, and turn by turn.
+--     link-row, link-delta, link-none       a target, by how it is labelled
+--     fact-other, fact-own, class-yes, class-no
+--     Turning                               the loop: the bound on the number of turns is never what ends it
+use Prim.Native.Nat.{ℕ, zero, suc, _+_, _*_, _-_, _/_, _<_, _≤_}
+use mathlib.Core.Path.{_≡_, refl, sym, ap, _∙_, subst}
+use mathlib.Core.Bool.{Bool, true, false, cond, _||_}
+use mathlib.Core.List.{List, [], _∷_}
+use mathlib.Core.Logic.{⊎-elim}
+use native.Mathlib.Nat.{eq-or-lt-of-le, le-of-suc-le-suc}
+use native.Mathlib.Omega.{arith}
+use lib.ListN.{length, getD, replicate, length-replicate}
+use lib.Dec.{eqb}
+use borrow.Author.Tests.{eq-eqb, ne-eqb}
+use Rattle.deck.specs.Deck.{Deck, Fact}
+use Rattle.deck.specs.Content.{deckOf}
+use Rattle.eval.specs.Lent.{labelWidth, bit, memberIn}
+use Rattle.model.specs.declared.bounds.Bounds.{Bounds}
+use Rattle.model.specs.declared.tally.Tally.{Tally}
+use Rattle.model.specs.declared.tally.Step.{Step}
+use Rattle.model.specs.declared.target_label.Target.{Target}
+use Rattle.model.specs.Label.{labelHas, insertBit}
+use Rattle.model.specs.Rows.{rowAt, rowsOf}
+use Rattle.model.specs.Push.{quiet}
+use Rattle.model.specs.Target.{targetOf}
+use Rattle.model.specs.Walk.{walk}
+use Rattle.model.specs.Model.{Model, Buffers, begun, Built, Prepared}
+use Rattle.model.specs.Expand.{linkTarget, workFact, factStep, workFacts, classStep, workClasses, highest, nextTurn, turns, expandIn}
+use Rattle.model.proofs.LabelLaws.{row-word}
+use Rattle.model.proofs.MemberLaws.{has-insert, none-has}
+use Rattle.model.proofs.RowLaws.{length-rows, rows-at}
+use Rattle.model.proofs.WalkLaws.{walk-fixed}
+use Rattle.model.proofs.BuildLaws.{built-is, built-same, built-trans, built-start, built-quiet, built-tripped}
+
+-- a label's class, read off the buffer
+pub label-member : (w n : ℕ) (buf : List ℕ) (e k : ℕ) → e < n → k / 64 < w → labelHas (getD (rowsOf w n buf) e []) k ≡ memberIn buf w e k
+unfolding labelHas memberIn
+label-member w n buf e k h l = rw (rows-at w n buf e h, row-word w buf (e * w) (k / 64) l)
+
+cond-true : {A : Type 0} (b : Bool) (x y : A) → b ≡ true → cond b x y ≡ x
+cond-true true x y h = refl
+cond-true false x y h = absurd (let z : _≡_ {A = ℕ} 0 1 = cc in omega arith)
+
+cond-false : {A : Type 0} (b : Bool) (x y : A) → b ≡ false → cond b x y ≡ y
+cond-false true x y h = absurd (let z : _≡_ {A = ℕ} 0 1 = cc in omega arith)
+cond-false false x y h = refl
+
+cond-same : {A : Type 0} (b : Bool) (x y : A) → x ≡ y → cond b x y ≡ y
+cond-same true x y h = h
+cond-same false x y h = refl
+
+module _ (D : Deck) (floor : List ℕ) (B : Bounds) (e : ℕ) where
+  -- ---- a fact
+  pub fact-stuck : (k : ℕ) (f : Fact) (m : Model) → m .state .tripped ≡ true → factStep D floor B e k f m ≡ m
+  unfolding factStep workFact
+  fact-stuck k f m w = cond-same (eqb (f .from) k) _ m (cond-true (m .state .tripped) m _ w)
+
+  pub fact-other : (k : ℕ) (f : Fact) (m : Model) → (f .from ≡ k → ⊥) → factStep D floor B e k f m ≡ m
+  unfolding factStep
+  fact-other k f m n = rw (ne-eqb (f .from) k n)
+
+  pub fact-own : (k : ℕ) (f g : Fact) (m : Model) → m .state .tripped ≡ false → g ≡ f → g .from ≡ k → {target : Target} → target ≡ targetOf D (g .to) (g .role)
+      → linkTarget D floor B e (g .to) (g .role) target m ≡ factStep D floor B e k f m
+  unfolding factStep workFact
+  fact-own k f g m w q h p = rw (p, ← q) (sym (cond-true (eqb (g .from) k) _ m (eq-eqb (g .from) k h) ∙ cond-false (m .state .tripped) m _ w))
+
+  -- ---- a class
+  pub facts-stuck : (k : ℕ) (m : Model) → m .state .tripped ≡ true → workFacts D floor B e k m ≡ m
+  unfolding workFacts
+  facts-stuck k m w = walk-fixed (factStep D floor B e k) (D .facts) m (λ f. fact-stuck k f m w)
+
+  pub class-stuck : (k : ℕ) (m : Model) → m .state .tripped ≡ true → classStep D floor B e k m ≡ m
+  unfolding classStep
+  class-stuck k m w = cond-same (labelHas (getD (m .labels) e []) k) _ m (facts-stuck k m w)
+
+  pub class-yes : (k : ℕ) (m : Model) → labelHas (getD (m .labels) e []) k ≡ true → classStep D floor B e k m ≡ workFacts D floor B e k m
+  unfolding classStep
+  class-yes k m h = rw h
+
+  pub class-no : (k : ℕ) (m : Model) → labelHas (getD (m .labels) e []) k ≡ false → classStep D floor B e k m ≡ m
+  unfolding classStep
+  class-no k m h = rw h
+
+-- ---- who is taken
+-- how many elements below n are not: what is left of the turns
+unfoldable pub untaken : List ℕ → ℕ → ℕ
+untaken taken zero = zero
+untaken taken (suc n) = cond (labelHas taken n) (untaken taken n) (suc (untaken taken n))
+
+or-false : (b : Bool) → (b || false) ≡ b
+or-false true = refl
+or-false false = refl
+
+or-true : (b : Bool) → (b || true) ≡ true
+or-true true = refl
+or-true false = refl
+
+has-other : (l : List ℕ) (k j : ℕ) → k / 64 < length l → (k ≡ j → ⊥) → labelHas (insertBit l k) j ≡ labelHas l j
+has-other l k j h n = has-insert l k j h ∙ rw (ne-eqb k j n) (or-false (labelHas l j))
+
+has-own : (l : List ℕ) (k : ℕ) → k / 64 < length l → labelHas (insertBit l k) k ≡ true
+has-own l k h = has-insert l k k h ∙ rw (eq-eqb k k refl) (or-true (labelHas l k))
+
+untaken-past : (taken : List ℕ) (e n : ℕ) → n ≤ e → e / 64 < length taken → untaken (insertBit taken e) n ≡ untaken taken n
+unfolding untaken
+untaken-past taken e zero h b = refl
+untaken-past taken e (suc n) h b = rw (has-other taken e n b (λ q. omega (arith, q, h)), untaken-past taken e n (omega (arith, h)) b)
+
+one-less : (b : Bool) (x y : ℕ) → x ≡ suc y → cond b x (suc x) ≡ suc (cond b y (suc y))
+one-less true x y h = h
+one-less false x y h = ap suc h
+
+pub untaken-take : (taken : List ℕ) (e n : ℕ) → e < n → e / 64 < length taken → labelHas taken e ≡ false → untaken taken n ≡ suc (untaken (insertBit taken e) n)
+unfolding untaken
+untaken-take taken e zero h b f = absurd (omega (arith, h))
+untaken-take taken e (suc n) h b f =
+    ⊎-elim
+    (λ (q : e ≡ n).
+    subst
+    (λ (k : ℕ). cond (labelHas taken k) (untaken taken k) (suc (untaken taken k)) ≡ suc (cond (labelHas (insertBit taken e) k) (untaken (insertBit taken e) k) (suc (untaken (insertBit taken e) k))))
+    q (rw (f, has-own taken e b, untaken-past taken e e (omega arith) b)))
+    (λ (l : e < n). rw (has-other taken e n b (λ q. omega (arith, q, l))) (one-less (labelHas taken n) (untaken taken n) (untaken (insertBit taken e) n) (untaken-take taken e n l b f)))
+    (eq-or-lt-of-le (le-of-suc-le-suc h))
+
+pub untaken-none : (w n : ℕ) → untaken (replicate w 0) n ≡ n
+unfolding untaken
+untaken-none w zero = refl
+untaken-none w (suc n) = rw (none-has w n) (ap suc (untaken-none w n))
+
+-- ---- the highest
+pub highest-skip : (taken : List ℕ) (i : ℕ) → 0 < i → labelHas taken (i - 1) ≡ true → highest taken i ≡ highest taken (i - 1)
+unfolding highest
+highest-skip taken i h e = let q : i ≡ suc (i - 1) = omega arith in ap (highest taken) q ∙ rw e
+
+pub highest-here : (taken : List ℕ) (i : ℕ) → 0 < i → labelHas taken (i - 1) ≡ false → highest taken i ≡ i
+unfolding highest
+highest-here taken i h e = let q : i ≡ suc (i - 1) = omega arith in ap (highest taken) q ∙ rw e (sym q)
+
+pub highest-none : (taken : List ℕ) → highest taken 0 ≡ 0
+unfolding highest
+highest-none taken = refl
+
+-- it is below the number, and is not taken
+pub highest-is : (taken : List ℕ) (n e : ℕ) → highest taken n ≡ suc e → (e < n) × (labelHas taken e ≡ false)
+unfolding highest
+highest-is taken zero e h = absurd (omega (arith, h))
+highest-is taken (suc n) e h = by (labelHas taken n) refl (λ q. highest-is taken n e q) h
+  where
+    by : (b : Bool) → labelHas taken n ≡ b → (highest taken n ≡ suc e → (e < n) × (labelHas taken e ≡ false)) → cond b (highest taken n) (suc n) ≡ suc e → (e < suc n) × (labelHas taken e ≡ false)
+    by true q f h′ = (omega (arith, f h′ .0), f h′ .1)
+    by false q f h′ = let s : n ≡ e = omega (arith, h′) in (omega arith, rw s at q)
+
+-- ---- turns
+module _ (D : Deck) (floor : List ℕ) (B : Bounds) (taken : List ℕ) (m : Model) where
+  turns-tripped : (f : ℕ) → m .state .tripped ≡ true → turns D floor B f taken m ≡ m
+  unfolding turns
+  turns-tripped zero h = refl
+  turns-tripped (suc f) h = cond-true (m .state .tripped) m _ h
+
+  turns-none : (f : ℕ) → highest taken (length (m .labels)) ≡ 0 → turns D floor B f taken m ≡ m
+  unfolding turns nextTurn
+  turns-none zero h = refl
+  turns-none (suc f) h = by (m .state .tripped)
+    where
+      by : (b : Bool) → cond b m (nextTurn D floor B (turns D floor B f) taken m (highest taken (length (m .labels)))) ≡ m
+      by true = refl
+      by false = rw h
+
+  turns-next : (f e : ℕ) → m .state .tripped ≡ false → highest taken (length (m .labels)) ≡ suc e → turns D floor B (suc f) taken m ≡ turns D floor B f (insertBit taken e) (workClasses D floor B e m)
+  unfolding turns nextTurn
+  turns-next f e t h = cond-false (m .state .tripped) m _ t ∙ rw h
+
+-- the turns have come to where `taken` are taken, whatever surplus d of turns there is
+pub record Turning (D : Deck) (floor : List ℕ) (B : Bounds) (b : Buffers) (t : Tally) (b₁ : Buffers) (l₁ : List ℕ) (held : Tally) (taken : List ℕ) : Type 0 where
+  pub built : Built D B b t b₁ l₁ (quiet held) (begun D b₁ held)
+  pub size : length taken ≡ 1024
+  pub goes : (d : ℕ) → expandIn D floor B (65536 + d) (begun D b t) ≡ turns D floor B (untaken taken 65536 + d) taken (begun D b₁ held)
+
+pub turning-start : {s : List ℕ} {B : Bounds} {b : Buffers} {t : Tally} {floor label : List ℕ} → Prepared s B b t floor label → {taken : List ℕ} → taken ≡ replicate 1024 0 → Turning (deckOf s) floor B b t b label t taken
+turning-start {s} {B} {b} {t} {floor} P {taken} e = record {
+  built = built-same P;
+  size = ap length e ∙ length-replicate {A = ℕ} 1024 0;
+  goes = λ d. rw (e, untaken-none 1024 65536);
+}
+
+module _ {D : Deck} {floor : List ℕ} {B : Bounds} {b : Buffers} {t : Tally} {b₁ : Buffers} {l₁ : List ℕ} {held : Tally} {taken : List ℕ} (G : Turning D floor B b t b₁ l₁ held taken) where
+  pub turning-done : {n : ℕ} → n ≡ highest taken (held .elements) → n ≡ 0 → (d : ℕ) → Built D B b t b₁ l₁ (quiet held) (expandIn D floor B (65536 + d) (begun D b t))
+  turning-done q z d =
+      built-is (G .built)
+      (sym (G .goes d ∙ turns-none D floor B taken (begun D b₁ held) (untaken taken 65536 + d) (ap (highest taken) (length-rows (labelWidth D) (held .elements) (b₁ .labels)) ∙ sym q ∙ z)))
+
+  module _ (n : ℕ) (q : n ≡ highest taken (held .elements)) (z : n ≡ 0 → ⊥) where
+    one-up : highest taken (held .elements) ≡ suc (n - 1)
+    one-up = let y : n ≡ suc (n - 1) = omega (arith, z) in sym q ∙ y
+
+    -- the element that is taken is one of them
+    pub turning-below : n - 1 < held .elements
+    turning-below = highest-is taken (held .elements) (n - 1) one-up .0
+
+    module _ (small : held .elements ≤ 65536) where
+      pub turning-place : (n - 1) / 64 < 1024
+      turning-place = omega (arith, turning-below)
+
+      fewer : untaken taken 65536 ≡ suc (untaken (insertBit taken (n - 1)) 65536)
+      fewer = untaken-take taken (n - 1) 65536 (omega (arith, turning-below)) (omega (arith, turning-below, G .size)) (highest-is taken (held .elements) (n - 1) one-up .1)
+
+      pub turning-less : {now : List ℕ} → now ≡ insertBit taken (n - 1) → untaken now 65536 < untaken taken 65536
+      turning-less e = rw e (omega (arith, fewer))
+
+      step : (d : ℕ) → expandIn D floor B (65536 + d) (begun D b t) ≡ turns D floor B (untaken (insertBit taken (n - 1)) 65536 + d) (insertBit taken (n - 1)) (workClasses D floor B (n - 1) (begun D b₁ held))
+      step d =
+          let y : untaken taken 65536 + d ≡ suc (untaken (insertBit taken (n - 1)) 65536 + d) = omega (arith, fewer) in
+          G .goes d ∙ ap (λ f. turns D floor B f taken (begun D b₁ held)) y
+          ∙ turns-next D floor B taken (begun D b₁ held) (untaken (insertBit taken (n - 1)) 65536 + d) (n - 1) refl (ap (highest taken) (length-rows (labelWidth D) (held .elements) (b₁ .labels)) ∙ one-up)
+
+      module _ {b₂ : Buffers} {l₂ : List ℕ} {r : Step} (X : Built D B b₁ held b₂ l₂ r (workClasses D floor B (n - 1) (begun D b₁ held))) where
+        pub turning-stop : r .tripped ≡ true → (d : ℕ) → Built D B b t b₂ l₂ r (expandIn D floor B (65536 + d) (begun D b t))
+        turning-stop w d =
+            built-is (built-trans (G .built) X)
+            (sym (step d ∙ turns-tripped D floor B (insertBit taken (n - 1)) (workClasses D floor B (n - 1) (begun D b₁ held)) (untaken (insertBit taken (n - 1)) 65536 + d) (built-tripped X ∙ w)))
+
+        pub turning-next : r .tripped ≡ false → {now : List ℕ} → now ≡ insertBit taken (n - 1) → length now ≡ 1024 → Turning D floor B b t b₂ l₂ (r .tally) now
+        turning-next w e k = record {
+          built = built-quiet (built-trans (G .built) X) w;
+          size = k;
+          goes = λ d. rw e (step d ∙ ap (turns D floor B (untaken (insertBit taken (n - 1)) 65536 + d) (insertBit taken (n - 1))) (sym (built-start X w)));
+        }

@@ -1,0 +1,18 @@
+use borrow.Author.Needs.{needs}
+use Rattle.model.proofs.expand.note.Statement.{statement}
+use Rattle.model.proofs.expand.note.Tie as tie
+use Rattle.model.proofs.expand.note.Reads as reads
+use Rattle.model.proofs.expand.note.Lts as lts
+use Rattle.model.proofs.reasons.note.Reads as note-reads
+
+note-requires : tie.Need-note-requires
+note-requires c κs = search needs
+
+same-length : tie.Need-same-length
+same-length c = search needs
+
+returns : tie.Need-returns
+returns c = (c .before .before .note .ensures .0, rw (c .before .before .note .ensures .1))
+
+pub note-spec : {M : Type 1} → statement M
+note-spec = tie.close (tie.spec note-requires same-length returns)
