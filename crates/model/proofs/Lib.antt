@@ -19,3 +19,4 @@ pub mod ClosingSpecimens
 pub mod TargetLaws
 pub mod BuildLaws
 pub mod ExpandLaws
+pub mod JudgingLaws

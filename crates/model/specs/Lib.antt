@@ -14,3 +14,6 @@ pub mod Model
 pub mod Expand
 pub mod Exists
 pub mod Rounds
+pub mod Phases
+pub mod Outcome
+pub mod Run

@@ -1,0 +1,129 @@
+// All axioms, judged in the structure that was built.
+ghost use mathlib.Core.Path.{_≡_};
+ghost use mathlib.Core.Bool.{_||_};
+ghost use mathlib.Core.List.{[], _∷_, map};
+ghost use Prim.Native.Nat.{_+_, _*_, _≤_};
+ghost use lib.Dec.{ltb};
+ghost use lib.ListN.{length};
+ghost use lib.Seq.{sets};
+ghost use Rattle.deck.specs.Content.{deckOf};
+ghost use Rattle.deck.specs.Deck.{axiomCount};
+ghost use Rattle.eval.specs.Lists.{any};
+ghost use Rattle.eval.specs.Lent.{Fits, structureOf};
+ghost use Rattle.model.specs.Rows.{put};
+ghost use Rattle.model.specs.Outcome.{isFails, isUnresolved, outcomeBy};
+ghost use Rattle.model.specs.Run.{verdictsIn, wordsIn};
+use crate::outcome::Outcome;
+use deck::axioms::axiom_count;
+use eval::axioms::check_axiom;
+use eval::shape::Shape;
+use eval::verdict::Verdict;
+use eval::verdict::verdict_words;
+
+// Whether an axiom failed, and whether one was left open.
+pub struct Judged {
+    pub fails: bool,
+    pub unresolved: bool,
+}
+
+fn is_fails(verdict: Verdict) -> bool
+    ensures { λ r. ⌜ r ≡ isFails verdict ⌝ }
+{
+    match verdict {
+        Verdict::Holds => false,
+        Verdict::Fails(_) => true,
+        Verdict::UnhandledAxiom(_, _) => false,
+        Verdict::UnhandledConcept(_) => false,
+        Verdict::GuardedRoleHasEdges(_) => false,
+    }
+}
+
+fn is_unresolved(verdict: Verdict) -> bool
+    ensures { λ r. ⌜ r ≡ isUnresolved verdict ⌝ }
+{
+    match verdict {
+        Verdict::Holds => false,
+        Verdict::Fails(_) => false,
+        Verdict::UnhandledAxiom(_, _) => true,
+        Verdict::UnhandledConcept(_) => true,
+        Verdict::GuardedRoleHasEdges(_) => true,
+    }
+}
+
+fn either(a: bool, b: bool) -> bool
+    ensures { λ r. ⌜ r ≡ (a || b) ⌝ }
+{
+    if a {
+        return true;
+    }
+    b
+}
+
+// One more verdict.
+fn add(judged: Judged, verdict: Verdict) -> Judged
+    ensures { λ r. ⌜ r ≡ record { fails = judged .fails || isFails verdict; unresolved = judged .unresolved || isUnresolved verdict } ⌝ }
+{
+    Judged {
+        fails: either(judged.fails, is_fails(verdict)),
+        unresolved: either(judged.unresolved, is_unresolved(verdict)),
+    }
+}
+
+// Four words, from a place on.
+fn store_words(verdicts: &mut [u32], at: usize, a: u32, b: u32, c: u32, d: u32)
+    requires { ⌜ at + 4 ≤ length (now verdicts) ⌝ }
+    ensures { λ _. ⌜ now (verdicts .exit) ≡ sets (now (verdicts .entry)) at (a ∷ b ∷ c ∷ d ∷ []) ⌝ }
+{
+    verdicts[at] = a;
+    verdicts[at + 1] = b;
+    verdicts[at + 2] = c;
+    verdicts[at + 3] = d;
+}
+
+// The words of each axiom's verdict, in order.
+pub fn judge_axioms(
+    deck: &[u8],
+    labels: &[u64],
+    edges: &[[u32; 3]],
+    shape: Shape,
+    verdicts: &mut [u32],
+) -> Judged
+    requires { ⌜ Fits (now deck) (now labels) (now edges) shape ⌝ }
+    requires { ⌜ 4 * axiomCount (deckOf (now deck)) ≤ length (now verdicts) ⌝ }
+    ensures words { λ _. ⌜ now (verdicts .exit) ≡ put (now (verdicts .entry)) (wordsIn (verdictsIn (deckOf (now (deck .entry))) (structureOf (deckOf (now (deck .entry))) (now (labels .entry)) (now (edges .entry)) shape))) ⌝ }
+    ensures fails { λ r. ⌜ r .fails ≡ any (map isFails (verdictsIn (deckOf (now (deck .entry))) (structureOf (deckOf (now (deck .entry))) (now (labels .entry)) (now (edges .entry)) shape))) ⌝ }
+    ensures unresolved { λ r. ⌜ r .unresolved ≡ any (map isUnresolved (verdictsIn (deckOf (now (deck .entry))) (structureOf (deckOf (now (deck .entry))) (now (labels .entry)) (now (edges .entry)) shape))) ⌝ }
+{
+    let count = axiom_count(deck);
+    let mut judged = Judged {
+        fails: false,
+        unresolved: false,
+    };
+    let mut i: u32 = 0;
+    while i < count {
+        let verdict = check_axiom(deck, labels, edges, shape, i);
+        let w = verdict_words(verdict);
+        store_words(verdicts, i as usize * 4, w[0], w[1], w[2], w[3]);
+        judged = add(judged, verdict);
+        i += 1;
+    }
+    judged
+}
+
+// Failed if an axiom fails, else open if a reason or an open axiom exists, else confirmed.
+pub fn outcome(judged: Judged, reasons: u32) -> Outcome
+    ensures { λ r. ⌜ r ≡ outcomeBy (judged .fails) (ltb 0 reasons || judged .unresolved) ⌝ }
+{
+    let fails = judged.fails;
+    let unresolved = judged.unresolved;
+    if fails {
+        return Outcome::Failed;
+    }
+    if 0 < reasons {
+        return Outcome::Open;
+    }
+    if unresolved {
+        return Outcome::Open;
+    }
+    Outcome::Confirmed
+}

@@ -1,0 +1,6 @@
+// What a run comes to.
+pub enum Outcome {
+    Confirmed,
+    Failed,
+    Open,
+}
