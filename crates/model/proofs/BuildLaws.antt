@@ -178,6 +178,18 @@ module _ {s : List ℕ} {B : Bounds} {b : Buffers} {t : Tally} {floor label : Li
     wide = P .label-wide;
   })
 
+  -- one that ends building
+  pub built-trip : (x : Reason) {log′ : List ℕ} {r : Step} → log′ ≡ noted (b .log) (t .reasons) x → r ≡ record { tally = record { elements = t .elements; edges = t .edges; reasons = counted (t .reasons) }; tripped = true }
+      → Built (deckOf s) B b t (lent (b .labels) (b .edges) log′) label r (tripIn x (begun (deckOf s) b t))
+  built-trip x p q = rw (p, q) (record {
+    held = built-same .held;
+    left = left-trip (B .«max_edges») (b .edges) (b .log) t (P .space) x;
+    more = omega arith;
+    most = omega (arith, P .few);
+    few = λ e. P .few;
+    wide = P .label-wide;
+  })
+
   -- the label buffer keeps its length
   pub built-size : {b′ : Buffers} {l : List ℕ} {r : Step} {m : Model} → Built (deckOf s) B b t b′ l r m → length (b′ .labels) ≡ length (b .labels)
   built-size {r = r} X = held-length (X .held) (fits-in (r .tally .elements) (X .most))

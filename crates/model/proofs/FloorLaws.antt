@@ -111,7 +111,7 @@ module _ (s : List ℕ) (A : IsAccepted s) (c : ℕ) {expr : ConceptExpr} (R : C
   abbrev D : Deck
   D = deckOf s
 
-  read-is : (v : ConceptExpr) → expr ≡ v → exprOf s v ≡ conceptAt D c
+  pub read-is : (v : ConceptExpr) → expr ≡ v → exprOf s v ≡ conceptAt D c
   read-is v p = sym (ap (exprOf s) p) ∙ R .is
 
   pub universal-read : (v : ConceptExpr) → expr ≡ v → universalOf (exprOf s v) (universal D) ≡ universal D c
@@ -123,22 +123,33 @@ module _ (s : List ℕ) (A : IsAccepted s) (c : ℕ) {expr : ConceptExpr} (R : C
   pub fits-read : (v : ConceptExpr) → expr ≡ v → ExprFits s c v
   fits-read v p = rw p at (R .fits)
 
-  -- the rows of the required atoms, as a concept of the form v has them
-  pub rows-read : (v : ConceptExpr) → expr ≡ v → flatMap (satisfiableRow D) (atomsOf (exprOf s v) (requiredAtoms D)) ≡ atomRows D c
-  unfolding atomRows
-  rows-read v p = ap (flatMap (satisfiableRow D)) (ap (λ (k : Concept). atomsOf k (requiredAtoms D)) (read-is v p) ∙ sym (atoms-at D (sound s A) c))
+  -- its required atoms, as a concept of the form v has them
+  atoms-read : (v : ConceptExpr) → expr ≡ v → atomsOf (exprOf s v) (requiredAtoms D) ≡ requiredAtoms D c
+  atoms-read v p = ap (λ (k : Concept). atomsOf k (requiredAtoms D)) (read-is v p) ∙ sym (atoms-at D (sound s A) c)
 
+  pub atoms-atomic : (k : ℕ) → expr ≡ ConceptExpr.Atomic (record { 0 = k }) → k ∷ [] ≡ requiredAtoms D c
+  unfolding atomsOf
+  atoms-atomic k p = atoms-read _ p
+
+  pub atoms-and : (l : Span) → expr ≡ ConceptExpr.And l → flatMap (requiredAtoms D) (listOf s l) ≡ requiredAtoms D c
+  unfolding atomsOf
+  atoms-and l p = atoms-read _ p
+
+  pub atoms-other : OneOf (0 ∷ 1 ∷ 3 ∷ 4 ∷ 5 ∷ 7 ∷ 8 ∷ 9 ∷ 10 ∷ 11 ∷ []) (tagOf the-type expr) → [] ≡ requiredAtoms D c
+  atoms-other h = no-atoms s (requiredAtoms D) expr h ∙ atoms-read expr refl
+
+  -- and their rows
   pub rows-atomic : (k : ℕ) → expr ≡ ConceptExpr.Atomic (record { 0 = k }) → satisfiableRow D k ≡ atomRows D c
-  unfolding atomsOf flatMap
-  rows-atomic k p = sym (append-nil (satisfiableRow D k)) ∙ rows-read _ p
+  unfolding atomRows flatMap
+  rows-atomic k p = sym (append-nil (satisfiableRow D k)) ∙ ap (flatMap (satisfiableRow D)) (atoms-atomic k p)
 
   pub rows-and : (l : Span) → expr ≡ ConceptExpr.And l → flatMap (atomRows D) (listOf s l) ≡ atomRows D c
-  unfolding atomsOf atomRows
-  rows-and l p = sym (flat-flat (satisfiableRow D) (requiredAtoms D) (listOf s l)) ∙ rows-read _ p
+  unfolding atomRows
+  rows-and l p = sym (flat-flat (satisfiableRow D) (requiredAtoms D) (listOf s l)) ∙ ap (flatMap (satisfiableRow D)) (atoms-and l p)
 
   pub rows-other : OneOf (0 ∷ 1 ∷ 3 ∷ 4 ∷ 5 ∷ 7 ∷ 8 ∷ 9 ∷ 10 ∷ 11 ∷ []) (tagOf the-type expr) → [] ≡ atomRows D c
-  unfolding flatMap
-  rows-other h = ap (flatMap (satisfiableRow D)) (no-atoms s (requiredAtoms D) expr h) ∙ rows-read expr refl
+  unfolding atomRows flatMap
+  rows-other h = ap (flatMap (satisfiableRow D)) (atoms-other h)
 
 -- ---- what an axiom gives
 module _ (D : Deck) (s : List ℕ) (x y z : ℕ) where
@@ -158,19 +169,25 @@ module _ (s : List ℕ) (a : ℕ) {r : AxiomRecord} (R : AxiomRead s a r) where
   pub axiom-fits : (k : ℕ) → r .tag ≡ k → FormFits s (conceptCount (deckOf s)) (axiomForm k) (r .first) (r .second) (r .third)
   axiom-fits k e = rw e at (R .fits)
 
-  floor-read : (k : ℕ) → r .tag ≡ k → floorOf (deckOf s) (axiomOf s k (r .first) (r .second) (r .third)) ≡ floorOf (deckOf s) (axiomAt (deckOf s) a)
-  floor-read k e = ap (floorOf (deckOf s)) (rw e at (R .is))
+  axiom-read : (k : ℕ) → r .tag ≡ k → axiomOf s k (r .first) (r .second) (r .third) ≡ axiomAt (deckOf s) a
+  axiom-read k e = rw e at (R .is)
+
+  pub axiom-sub-class : r .tag ≡ 0 → Axiom.SubClassOf (r .first) (r .second) ≡ axiomAt (deckOf s) a
+  unfolding axiomOf makeAxiom
+  axiom-sub-class e = axiom-read 0 e
+
+  pub axiom-equivalent : r .tag ≡ 1 → Axiom.EquivalentClasses (listOf s (record { start = r .first; count = r .second })) ≡ axiomAt (deckOf s) a
+  unfolding axiomOf makeAxiom
+  axiom-equivalent e = axiom-read 1 e
 
   pub floor-sub-class : r .tag ≡ 0 → floorOf (deckOf s) (Axiom.SubClassOf (r .first) (r .second)) ≡ floorOf (deckOf s) (axiomAt (deckOf s) a)
-  unfolding axiomOf makeAxiom
-  floor-sub-class e = floor-read 0 e
+  floor-sub-class e = ap (floorOf (deckOf s)) (axiom-sub-class e)
 
   pub floor-equivalent : r .tag ≡ 1 → floorOf (deckOf s) (Axiom.EquivalentClasses (listOf s (record { start = r .first; count = r .second }))) ≡ floorOf (deckOf s) (axiomAt (deckOf s) a)
-  unfolding axiomOf makeAxiom
-  floor-equivalent e = floor-read 1 e
+  floor-equivalent e = ap (floorOf (deckOf s)) (axiom-equivalent e)
 
   pub floor-other : 2 ≤ r .tag → [] ≡ floorOf (deckOf s) (axiomAt (deckOf s) a)
-  floor-other h = other-axiom (deckOf s) s (r .first) (r .second) (r .third) (r .tag) h (R .known) ∙ floor-read (r .tag) refl
+  floor-other h = other-axiom (deckOf s) s (r .first) (r .second) (r .third) (r .tag) h (R .known) ∙ ap (floorOf (deckOf s)) (R .is)
 
 -- ---- a class below M, by words
 module _ (l : List ℕ) where

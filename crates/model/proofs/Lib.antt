@@ -20,3 +20,8 @@ pub mod TargetLaws
 pub mod BuildLaws
 pub mod ExpandLaws
 pub mod JudgingLaws
+pub mod NeedLaws
+pub mod BodyLaws
+pub mod ExistsLaws
+pub mod AntecedentLaws
+pub mod RoundLaws

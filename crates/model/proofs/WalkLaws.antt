@@ -1,8 +1,10 @@
 -- Laws of `walk`, and one record for every loop that walks a list: On.
 use mathlib.Core.Bool.{true, false}
-use Prim.Native.Nat.{ℕ}
+use Prim.Native.Nat.{ℕ, _+_, _<_, _≤_}
 use mathlib.Core.Path.{_≡_, refl, sym, ap, _∙_}
-use mathlib.Core.List.{List, [], _∷_, map, List·Memᴰ as Member, List·Memᴰ·head as here, List·Memᴰ·tail as there}
+use mathlib.Core.List.{List, [], _∷_, _++_, map, flatMap, List·Memᴰ as Member, List·Memᴰ·head as here, List·Memᴰ·tail as there}
+use lib.ListN.{length, getD, drop, drop-of-length-le}
+use Rattle.eval.proofs.Walks.{list-step}
 use Rattle.model.specs.declared.tally.Tally.{Tally}
 use Rattle.model.specs.declared.tally.Step.{Step}
 use Rattle.model.specs.Push.{State, quiet, start, Left, Room}
@@ -26,6 +28,37 @@ pub walk-map : {A B S : Type 0} (f : B → S → S) (g : A → B) (xs : List A) 
 unfolding walk
 walk-map f g [] s = refl
 walk-map f g (x ∷ xs) s = walk-map f g xs (f (g x) s)
+
+-- a walk over the lists that a list gives, one after the other
+walk-append : {A S : Type 0} (f : A → S → S) (xs ys : List A) (s : S) → walk f (xs ++ ys) s ≡ walk f ys (walk f xs s)
+unfolding walk
+walk-append f [] ys s = refl
+walk-append f (x ∷ xs) ys s = walk-append f xs ys (f x s)
+
+pub walk-flat : {A B S : Type 0} (f : B → S → S) (g : A → List B) (xs : List A) (s : S) → walk f (flatMap g xs) s ≡ walk (λ x. walk f (g x)) xs s
+unfolding walk flatMap
+walk-flat f g [] s = refl
+walk-flat f g (x ∷ xs) s = walk-append f (g x) (flatMap g xs) s ∙ walk-flat f g xs (walk f (g x) s)
+
+-- steps that do the same on every member
+pub walk-same : {A S : Type 0} (f g : A → S → S) (xs : List A) → ((x : A) → Member x xs → f x ≡ g x) → (s : S) → walk f xs s ≡ walk g xs s
+unfolding walk
+walk-same f g [] h s = refl
+walk-same f g (x ∷ xs) h s = rw (h x (here refl)) (walk-same f g xs (λ y i. h y (there i)) (g x s))
+
+-- a walk as a loop takes it: what is still to come is `drop i l`
+module _ {A S : Type 0} (d : A) (f : A → S → S) (l : List A) (i : ℕ) (s : S) where
+  pub walk-end : length l ≤ i → s ≡ walk f (drop i l) s
+  unfolding walk
+  walk-end h = rw (drop-of-length-le l h)
+
+  pub walk-step : i < length l → {next : S} → next ≡ f (getD l i d) s → walk f (drop i l) s ≡ walk f (drop (i + 1) l) next
+  unfolding walk
+  walk-step h q = rw (list-step d l i h, q)
+
+-- the operand that a loop reads at i, and what comes after it
+pub operand : (l : List ℕ) (i : ℕ) → i < length l → {x : ℕ} → x ≡ getD l i 0 → drop i l ≡ x ∷ drop (i + 1) l
+operand l i h q = rw q (list-step 0 l i h)
 
 -- a walk over `all` has come to `rest`, and the buffers hold where it is
 pub record On (limit : ℕ) {A : Type 0} (f : A → State → State) (all rest : List A) (was : List (List ℕ)) (log : List ℕ) (t : Tally) (now : List (List ℕ)) (log′ : List ℕ) (held : Tally) : Type 0 where

@@ -2,6 +2,7 @@
 use Prim.Native.Nat.{ℕ}
 use mathlib.Core.Bool.{true, false, cond}
 use mathlib.Core.List.{List, flatMap}
+use mathlib.Core.Path.{_≡_}
 use lib.ListN.{replicate}
 use Rattle.deck.specs.Deck.{Deck, Concept, Role, conceptAt, classAt, roleAt}
 use Rattle.eval.specs.Lent.{labelWidth}
@@ -25,6 +26,15 @@ pub record Body : Type 0 where
   pub log : List ℕ
   pub atoms : Atoms
 
+abbrev pub body : List ℕ → List ℕ → Atoms → Body
+body label log atoms = record { label = label; log = log; atoms = atoms }
+
+-- what the code leaves of a body: the label in the making, the log, and the total of reasons
+pub record Joined (l g : List ℕ) (n : ℕ) (s : Body) : Type 0 where
+  pub label : l ≡ s .label
+  pub log : g ≡ s .log
+  pub reasons : n ≡ s .atoms .reasons
+
 -- one more atom: the first of all is kept
 abbrev pub met : ℕ → Atoms → Atoms
 met a j = record { found = true; first = cond (j .found) (j .first) (record { 0 = a }); unclosed = j .unclosed; reasons = j .reasons }
@@ -34,6 +44,13 @@ open-too j = record { found = j .found; first = j .first; unclosed = true; reaso
 
 abbrev pub one-more : Atoms → Atoms
 one-more j = record { found = j .found; first = j .first; unclosed = j .unclosed; reasons = counted (j .reasons) }
+
+abbrev pub noAtoms : ℕ → Atoms
+noAtoms reasons = record { found = false; first = record { 0 = 0 }; unclosed = false; reasons = reasons }
+
+-- one more reason after those of the atoms
+abbrev pub noted-in : Reason → Body → Body
+noted-in x s = record { label = s .label; log = noted (s .log) (s .atoms .reasons) x; atoms = one-more (s .atoms) }
 
 module _ (D : Deck) where
   abbrev pub rowOfClass : ℕ → List ℕ
@@ -51,12 +68,6 @@ module _ (D : Deck) where
   -- "joins the labels of its body's required atoms"
   unfoldable pub joinAtoms : ℕ → ℕ → Body → Body
   joinAtoms r c s = walk (joinAtom r) (requiredAtoms D c) s
-
-  abbrev pub noAtoms : ℕ → Atoms
-  noAtoms reasons = record { found = false; first = record { 0 = 0 }; unclosed = false; reasons = reasons }
-
-  abbrev pub noted-in : Reason → Body → Body
-  noted-in x s = record { label = s .label; log = noted (s .log) (s .atoms .reasons) x; atoms = one-more (s .atoms) }
 
   -- "a body without atoms takes the rows of r's range classes"
   abbrev pub withRanges : ℕ → Body → Body

@@ -14,13 +14,18 @@ use Rattle.model.specs.Reasons.{boundTripped}
 use Rattle.model.specs.Model.{Model, tripIn}
 use Rattle.model.specs.Exists.{work}
 
+-- is there one in the list?
 abbrev pub someIn : List ℕ → Bool
 someIn [] = false
 someIn (x ∷ xs) = true
 
+-- "has required atoms"
+unfoldable pub hasAtom : Deck → ℕ → Bool
+hasAtom D c = someIn (requiredAtoms D c)
+
 -- "if the antecedent has required atoms or is universal"
 unfoldable pub isRule : Deck → ℕ → Bool
-isRule D c = someIn (requiredAtoms D c) || universal D c
+isRule D c = hasAtom D c || universal D c
 
 -- "A rule fires on its antecedent's required atoms only"
 unfoldable pub holdsAtoms : Deck → List ℕ → ℕ → Bool

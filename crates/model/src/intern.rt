@@ -36,7 +36,7 @@ fn same_label(labels: &[u64], at: usize, label: &[u64]) -> bool
 }
 
 // Where row e of w words starts, in a table of n rows.
-fn row_start(e: usize, n: usize, w: usize, room: usize) -> usize
+pub fn row_start(e: usize, n: usize, w: usize, room: usize) -> usize
     requires { ⌜ (e < n) × (n * w ≤ room) ⌝ }
     ensures { λ r. ⌜ (r ≡ e * w) × (r + w ≤ room) ⌝ }
 {

@@ -1,17 +1,21 @@
 // Builds the finite structure of a deck: document 01, sections 2 and 3.
+pub mod antecedent;
 pub mod body;
 pub mod bounds;
 pub mod closing;
+pub mod exists;
 pub mod expand;
 pub mod floor;
 pub mod intern;
 pub mod judging;
 pub mod labels;
+pub mod need;
 pub mod outcome;
 pub mod pairs;
 pub mod push;
 pub mod reach;
 pub mod reasons;
+pub mod rounds;
 pub mod rules;
 pub mod run;
 pub mod seed;

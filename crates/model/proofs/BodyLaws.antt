@@ -1,0 +1,84 @@
+-- The label of a body's target: one atom, a concept by its form, and what closes it.
+-- Assumes nothing.
+use Prim.Native.Nat.{ℕ}
+use mathlib.Core.Bool.{true, false}
+use mathlib.Core.Path.{_≡_, refl, sym, ap, subst, _∙_}
+use mathlib.Core.List.{List, [], _∷_, flatMap}
+use lib.ListN.{length, replicate}
+use types.Run.{OneOf}
+use denote.Enum.Declared.{tagOf}
+use Rattle.deck.proofs.concepts.ConceptExpr.{the-type}
+use Rattle.deck.specs.declared.concepts.ConceptExpr.{ConceptExpr}
+use Rattle.deck.specs.declared.numbers.ClassId.{ClassId}
+use Rattle.deck.specs.declared.rows.Span.{Span}
+use Rattle.deck.specs.Deck.{Deck, roleAt}
+use Rattle.deck.specs.Content.{IsAccepted, deckOf}
+use Rattle.deck.specs.Reads.{ConceptRead, listOf}
+use Rattle.eval.specs.Lent.{labelWidth}
+use Rattle.model.specs.declared.body.Atoms.{Atoms}
+use Rattle.model.specs.declared.target_label.Target.{Target}
+use Rattle.model.specs.declared.target_label.Target.the-variants.{Row, Delta, NotClosed}
+use Rattle.model.specs.Walk.{walk}
+use Rattle.model.specs.Label.{insertAll}
+use Rattle.model.specs.Floor.{requiredAtoms}
+use Rattle.model.specs.Reasons.{noted, counted, runDelta, labelNotClosed}
+use Rattle.model.specs.Target.{targetOf}
+use Rattle.model.specs.Exists.{Body, body, Joined, met, rowOfClass, joinBy, joinAtom, joinAtoms, noAtoms, closeBody, bodyOf}
+use Rattle.model.proofs.FloorLaws.{atoms-atomic, atoms-and, atoms-other}
+use Rattle.model.proofs.WalkLaws.{walk-flat}
+
+-- ---- one more atom
+pub met-again : (a : ℕ) (j : Atoms) → j .found ≡ true → j ≡ met a j
+met-again a j e = let p : record { found = j .found; first = j .first; unclosed = j .unclosed; reasons = j .reasons } ≡ met a j = rw e in p
+
+-- by the label t of its target; j becomes z
+module _ (D : Deck) (r a : ℕ) {t : Target} (p : t ≡ targetOf D a r) (l g : List ℕ) (j : Atoms) {z : Atoms} (f : z ≡ met a j) where
+  joined-by : (v : Target) → t ≡ v → joinBy D a v (body l g j) ≡ joinAtom D r a (body l g j)
+  unfolding joinAtom
+  joined-by v q = ap (λ (t : Target). joinBy D a t (body l g j)) (sym q ∙ p)
+
+  pub joined-row : (k : ClassId) → t ≡ Row k → {l′ : List ℕ} → l′ ≡ insertAll l (rowOfClass D (k .0)) → body l′ g z ≡ joinAtom D r a (body l g j)
+  joined-row k q e = rw (e, f) (joined-by (Row k) q)
+
+  pub joined-delta : (k : ClassId) → t ≡ Delta k → {l′ : List ℕ} → l′ ≡ insertAll l (rowOfClass D (k .0)) → {g′ : List ℕ} {n : ℕ} → g′ ≡ noted g (z .reasons) (runDelta a) → n ≡ counted (z .reasons)
+      → body l′ g′ (record { found = z .found; first = z .first; unclosed = z .unclosed; reasons = n }) ≡ joinAtom D r a (body l g j)
+  joined-delta k q e u v = rw (e, u, v, f) (joined-by (Delta k) q)
+
+  pub joined-open : t ≡ NotClosed → {l′ : List ℕ} → l′ ≡ insertAll l (rowOfClass D a) → body l′ g (record { found = z .found; first = z .first; unclosed = true; reasons = z .reasons }) ≡ joinAtom D r a (body l g j)
+  joined-open q e = rw (e, f) (joined-by NotClosed q)
+
+-- ---- the atoms of a concept that was read
+module _ (s : List ℕ) (A : IsAccepted s) (c : ℕ) {expr : ConceptExpr} (R : ConceptRead s c expr) (r : ℕ) (b : Body) where
+  abbrev D : Deck
+  D = deckOf s
+
+  joined-read : (v : List ℕ) → v ≡ requiredAtoms D c → walk (joinAtom D r) v b ≡ joinAtoms D r c b
+  unfolding joinAtoms
+  joined-read v p = ap (λ (l : List ℕ). walk (joinAtom D r) l b) p
+
+  pub joined-atomic : (k : ClassId) → expr ≡ ConceptExpr.Atomic k → joinAtom D r (k .0) b ≡ joinAtoms D r c b
+  unfolding walk
+  joined-atomic k p = joined-read (k .0 ∷ []) (atoms-atomic s A c R (k .0) p)
+
+  pub joined-and : (l : Span) → expr ≡ ConceptExpr.And l → walk (joinAtoms D r) (listOf s l) b ≡ joinAtoms D r c b
+  unfolding joinAtoms
+  joined-and l p = sym (walk-flat (joinAtom D r) (requiredAtoms D) (listOf s l) b) ∙ joined-read (flatMap (requiredAtoms D) (listOf s l)) (atoms-and s A c R l p)
+
+  pub joined-other : OneOf (0 ∷ 1 ∷ 3 ∷ 4 ∷ 5 ∷ 7 ∷ 8 ∷ 9 ∷ 10 ∷ 11 ∷ []) (tagOf the-type expr) → b ≡ joinAtoms D r c b
+  unfolding walk
+  joined-other h = joined-read [] (atoms-other s A c R h)
+
+-- ---- what closes a body whose atoms are joined: the label l₁ was cleared to l₀
+module _ (D : Deck) (r b : ℕ) (log : List ℕ) (n : ℕ) (l₁ l₀ : List ℕ) (Z : l₀ ≡ replicate (length l₁) 0) (W : length l₁ ≡ labelWidth D) {l g : List ℕ} {j : Atoms} (E : body l g j ≡ joinAtoms D r b (body l₀ log (noAtoms n))) where
+  close-is : closeBody D r (body l g j) ≡ bodyOf D r b log n
+  unfolding bodyOf
+  close-is = ap (closeBody D r) (E ∙ ap (λ (x : List ℕ). joinAtoms D r b (body x log (noAtoms n))) (Z ∙ ap (λ (w : ℕ). replicate w 0) W))
+
+  pub close-none : j .found ≡ false → {l′ : List ℕ} → l′ ≡ insertAll l (flatMap (rowOfClass D) (roleAt D r .range)) → Joined l′ g (j .reasons) (bodyOf D r b log n)
+  close-none e {l′} q = subst (Joined l′ g (j .reasons)) close-is (rw e (record { label = q; log = refl; reasons = refl }))
+
+  pub close-all : j .found ≡ true → j .unclosed ≡ false → Joined l g (j .reasons) (bodyOf D r b log n)
+  close-all e u = subst (Joined l g (j .reasons)) close-is (rw (e, u) (record { label = refl; log = refl; reasons = refl }))
+
+  pub close-open : j .found ≡ true → j .unclosed ≡ true → {g′ : List ℕ} {n′ : ℕ} → g′ ≡ noted g (j .reasons) (labelNotClosed (j .first .0) r) → n′ ≡ counted (j .reasons) → Joined l g′ n′ (bodyOf D r b log n)
+  close-open e u {g′} {n′} p q = subst (Joined l g′ n′) close-is (rw (e, u) (record { label = refl; log = p; reasons = q }))

@@ -1,0 +1,38 @@
+use Rattle.model.proofs.BuildLaws.{built-is, built-same}
+use Rattle.model.proofs.RoundLaws.{pair-same, pair-differs}
+use borrow.Author.Needs.{needs}
+use Rattle.model.proofs.rounds.fire_pair.Statement.{statement}
+use Rattle.model.proofs.rounds.fire_pair.Tie as tie
+
+returns : tie.Need-returns
+returns c = built-is (built-same (c .before .before .before .before .before .before .before .before .pre .0)) (pair-same _ _ _ _ _ _ _ (c .if1 .taken))
+
+fire-requires : tie.Need-fire-requires
+fire-requires c κs = search needs
+
+same-length : tie.Need-same-length
+same-length c = search needs
+
+same-length-2 : tie.Need-same-length-2
+same-length-2 c = search needs
+
+same-length-3 : tie.Need-same-length-3
+same-length-3 c = search needs
+
+same-length-4 : tie.Need-same-length-4
+same-length-4 c = search needs
+
+returns-2 : tie.Need-returns-2
+returns-2 c = built-is (c .before .before .before .before .before .before .before .fire .ensures) (pair-differs _ _ _ _ _ _ _ (c .before .before .before .before .before .before .before .before .before .before .before .before .if1 .left))
+
+pub fire-pair-spec : {M : Type 1} → statement M
+fire-pair-spec =
+    tie.close
+    (tie.spec
+    returns
+    fire-requires
+    same-length
+    same-length-2
+    same-length-3
+    same-length-4
+    returns-2)

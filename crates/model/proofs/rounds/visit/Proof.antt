@@ -1,0 +1,102 @@
+use Prim.Native.Nat.{_-_, _≤_}
+use mathlib.Core.Path.{refl, sym, _∙_}
+use native.Mathlib.Omega.{arith}
+use denote.Ref.{now}
+use lib.ListN.{drop, drop-of-length-le}
+use Rattle.deck.specs.Content.{deckOf}
+use Rattle.model.specs.Model.{lent}
+use Rattle.model.proofs.BuildLaws.{built-trans, prepared-after, OnModel, model-start, model-done, model-stop, model-next}
+use Rattle.model.proofs.RoundLaws.{labels-size, axiom-stuck}
+use Rattle.deck.specs.Deck.{Axiom}
+use Rattle.eval.proofs.Walks.{list-step}
+use Rattle.model.specs.Rounds.{fireAxiom, visit}
+use Rattle.model.proofs.rounds.visit.Statement.{statement}
+use Rattle.model.proofs.rounds.visit.Tie as tie
+
+abbrev Inv-loop : tie.InvT-loop
+Inv-loop deck bounds floor label₀ labels₀ edges₀ log₀ e count i₀ held₀ label labels edges log i held = (i ≤ count) × OnModel (deckOf deck) bounds (fireAxiom (deckOf deck) floor bounds (e .0)) (deckOf deck .axioms) (drop i (deckOf deck .axioms)) (lent labels₀ edges₀ log₀) held₀ (lent labels edges log) label held
+
+abbrev μ-loop : tie.MeasureT-loop
+μ-loop deck bounds floor label₀ labels₀ edges₀ log₀ e count i₀ held₀ label labels edges log i held = count - i
+
+axiom-count-requires : tie.Need-axiom-count-requires Inv-loop μ-loop
+axiom-count-requires c κs = c .before .before .before .before .before .pre .0 .accepted
+
+loop-holds : tie.Need-loop-holds Inv-loop μ-loop
+loop-holds c = (omega arith, model-start _ _ (c .before .before .before .before .before .before .pre .0))
+
+fire-axiom-requires : tie.Need-fire-axiom-requires Inv-loop μ-loop
+fire-axiom-requires c κs =
+    let z = c .before .before .before .before .before .before .before .before .before .before .before .before in
+    let G = c .before .before .before .before .before .loop .inv .1 in
+    (prepared-after (z .pre .0) (G .built) refl, (omega (arith, c .before .before .before .before .before .before .axiom-count .ensures .is), omega (arith, G .built .more, z .pre .1)))
+
+same-length : tie.Need-same-length Inv-loop μ-loop
+same-length c = c .before .before .before .before .before .before .before .before .fire-axiom .ensures .wide ∙ sym (c .before .before .before .before .before .before .before .before .before .before .before .before .before .before .before .before .before .before .before .before .before .pre .0 .label-wide)
+
+same-length-2 : tie.Need-same-length-2 Inv-loop μ-loop
+same-length-2 c = labels-size (c .before .before .before .before .before .before .before .before .before .before .before .before .before .before .before .before .before .before .before .before .before .pre .0) (built-trans (c .before .before .before .before .before .before .before .before .before .before .before .before .before .before .loop .inv .1 .built) (c .before .before .before .before .before .before .before .before .fire-axiom .ensures))
+
+same-length-3 : tie.Need-same-length-3 Inv-loop μ-loop
+same-length-3 c = c .before .before .before .before .before .before .before .before .fire-axiom .ensures .left .size ∙ c .before .before .before .before .before .before .before .before .before .before .before .before .before .before .loop .inv .1 .built .left .size
+
+same-length-4 : tie.Need-same-length-4 Inv-loop μ-loop
+same-length-4 c = c .before .before .before .before .before .before .before .before .fire-axiom .ensures .left .log-size ∙ c .before .before .before .before .before .before .before .before .before .before .before .before .before .before .loop .inv .1 .built .left .log-size
+
+returns : tie.Need-returns Inv-loop μ-loop
+unfolding visit
+returns c =
+    let turn = c .before .before .before .before .before .before .before .before .before .before .before .before .before .before .loop in
+    model-stop (turn .inv .1) (list-step (Axiom.DeclareClass 0) (deckOf (now (c .before .before .before .before .before .before .before .before .before .before .before .before .before .before .before .before .before .before .before .before .before .args .deck)) .axioms) (turn .i) (omega (arith, c .before .before .before .before .before .before .before .before .before .before .before .before .before .before .before .axiom-count .ensures .is))) (c .before .before .before .before .before .before .before .before .fire-axiom .ensures) (λ x u w. axiom-stuck _ _ _ _ u w x) (c .if1 .taken)
+
+add-i : tie.Need-add-i Inv-loop μ-loop
+add-i c = omega (arith, c .before .before .before .before .before .before .before .before .before .before .before .before .before .before .before .before .axiom-count .ensures .most)
+
+loop-less : tie.Need-loop-less Inv-loop μ-loop
+loop-less c = omega arith
+
+loop-again : tie.Need-loop-again Inv-loop μ-loop
+loop-again c =
+    let turn = c .before .before .before .before .before .before .before .before .before .before .before .before .before .before .before .loop in
+    (omega arith, model-next (turn .inv .1) (list-step (Axiom.DeclareClass 0) (deckOf (now (c .before .before .before .before .before .before .before .before .before .before .before .before .before .before .before .before .before .before .before .before .before .before .args .deck)) .axioms) (turn .i) (omega (arith, c .before .before .before .before .before .before .before .before .before .before .before .before .before .before .before .before .axiom-count .ensures .is))) (c .before .before .before .before .before .before .before .before .before .fire-axiom .ensures) (c .before .if1 .left))
+
+same-length-5 : tie.Need-same-length-5 Inv-loop μ-loop
+same-length-5 c = c .before .loop .inv .1 .built .wide ∙ sym (c .before .before .before .before .before .before .before .before .pre .0 .label-wide)
+
+same-length-6 : tie.Need-same-length-6 Inv-loop μ-loop
+same-length-6 c = labels-size (c .before .before .before .before .before .before .before .before .pre .0) (c .before .loop .inv .1 .built)
+
+same-length-7 : tie.Need-same-length-7 Inv-loop μ-loop
+same-length-7 c = c .before .loop .inv .1 .built .left .size
+
+same-length-8 : tie.Need-same-length-8 Inv-loop μ-loop
+same-length-8 c = c .before .loop .inv .1 .built .left .log-size
+
+returns-2 : tie.Need-returns-2 Inv-loop μ-loop
+unfolding visit
+returns-2 c =
+    let turn = c .before .loop in
+    model-done (turn .inv .1) (drop-of-length-le (deckOf (now (c .before .before .before .before .before .before .before .before .args .deck)) .axioms) {i = turn .i} (omega (arith, c .before .before .axiom-count .ensures .is)))
+
+pub visit-spec : {M : Type 1} → statement M
+visit-spec =
+    tie.close
+    (tie.spec
+    Inv-loop
+    μ-loop
+    axiom-count-requires
+    loop-holds
+    fire-axiom-requires
+    same-length
+    same-length-2
+    same-length-3
+    same-length-4
+    returns
+    add-i
+    loop-less
+    loop-again
+    same-length-5
+    same-length-6
+    same-length-7
+    same-length-8
+    returns-2)

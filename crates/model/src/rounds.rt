@@ -1,0 +1,375 @@
+// Rounds of rules over the elements, until a round adds no element.
+ghost use mathlib.Core.Path.{_≡_};
+ghost use mathlib.Core.Bool.{true};
+ghost use Prim.Native.Nat.{_-_, _<_};
+ghost use Rattle.deck.specs.Content.{deckOf};
+ghost use Rattle.deck.specs.Deck.{Axiom, conceptCount, axiomAt, axiomCount};
+ghost use Rattle.deck.specs.Reads.{listOf, ListFits};
+ghost use Rattle.model.specs.Reasons.{boundTripped, noted, counted};
+ghost use Rattle.model.specs.Rounds as spec;
+ghost use Rattle.model.specs.Model.{lent, begun, Prepared, Built};
+use crate::antecedent::fires;
+use crate::bounds::Bounds;
+use crate::exists::materialise_exists;
+use crate::intern::row_start;
+use crate::reasons::Reason;
+use crate::reasons::note;
+use crate::tally::Step;
+use crate::tally::Tally;
+use deck::axioms::axiom_at;
+use deck::axioms::axiom_count;
+use deck::numbers::ConceptId;
+use deck::numbers::Element;
+use deck::rows::Span;
+use deck::rows::item;
+
+// A rule at element e.
+fn fire(
+    deck: &[u8],
+    bounds: Bounds,
+    floor: &[u64],
+    label: &mut [u64],
+    labels: &mut [u64],
+    edges: &mut [[u32; 3]],
+    log: &mut [u32],
+    t: Tally,
+    ante: ConceptId,
+    sup: ConceptId,
+    e: Element,
+) -> Step
+    requires { ⌜ Prepared (now deck) bounds (lent (now labels) (now edges) (now log)) t (now floor) (now label) ⌝ }
+    requires { ⌜ ante .0 < conceptCount (deckOf (now deck)) ⌝ }
+    requires { ⌜ sup .0 < conceptCount (deckOf (now deck)) ⌝ }
+    requires { ⌜ e .0 < t .elements ⌝ }
+    ensures { λ r. ⌜ Built (deckOf (now (deck .entry))) bounds (lent (now (labels .entry)) (now (edges .entry)) (now (log .entry))) t (lent (now (labels .exit)) (now (edges .exit)) (now (log .exit))) (now (label .exit)) r
+        (spec.fire (deckOf (now (deck .entry))) (now (floor .entry)) bounds (e .0) (ante .0) (sup .0) (begun (deckOf (now (deck .entry))) (lent (now (labels .entry)) (now (edges .entry)) (now (log .entry))) t)) ⌝ }
+{
+    let at = row_start(e.0 as usize, t.elements as usize, label.len(), labels.len());
+    if fires(deck, labels, at, ante) {
+        return materialise_exists(deck, bounds, floor, label, labels, edges, log, t, sup, e);
+    }
+    Step {
+        tally: t,
+        tripped: false,
+    }
+}
+
+// A pair of members of EquivalentClasses, where their concept numbers differ.
+fn fire_pair(
+    deck: &[u8],
+    bounds: Bounds,
+    floor: &[u64],
+    label: &mut [u64],
+    labels: &mut [u64],
+    edges: &mut [[u32; 3]],
+    log: &mut [u32],
+    t: Tally,
+    a: ConceptId,
+    b: ConceptId,
+    e: Element,
+) -> Step
+    requires { ⌜ Prepared (now deck) bounds (lent (now labels) (now edges) (now log)) t (now floor) (now label) ⌝ }
+    requires { ⌜ a .0 < conceptCount (deckOf (now deck)) ⌝ }
+    requires { ⌜ b .0 < conceptCount (deckOf (now deck)) ⌝ }
+    requires { ⌜ e .0 < t .elements ⌝ }
+    ensures { λ r. ⌜ Built (deckOf (now (deck .entry))) bounds (lent (now (labels .entry)) (now (edges .entry)) (now (log .entry))) t (lent (now (labels .exit)) (now (edges .exit)) (now (log .exit))) (now (label .exit)) r
+        (spec.firePair (deckOf (now (deck .entry))) (now (floor .entry)) bounds (e .0) (a .0) (b .0) (begun (deckOf (now (deck .entry))) (lent (now (labels .entry)) (now (edges .entry)) (now (log .entry))) t)) ⌝ }
+{
+    if a.0 == b.0 {
+        return Step {
+            tally: t,
+            tripped: false,
+        };
+    }
+    fire(deck, bounds, floor, label, labels, edges, log, t, a, b, e)
+}
+
+// From one member to each.
+fn fire_from(
+    deck: &[u8],
+    bounds: Bounds,
+    floor: &[u64],
+    label: &mut [u64],
+    labels: &mut [u64],
+    edges: &mut [[u32; 3]],
+    log: &mut [u32],
+    t: Tally,
+    list: Span,
+    a: ConceptId,
+    e: Element,
+) -> Step
+    requires { ⌜ Prepared (now deck) bounds (lent (now labels) (now edges) (now log)) t (now floor) (now label) ⌝ }
+    requires { ⌜ ListFits (now deck) (conceptCount (deckOf (now deck))) list ⌝ }
+    requires { ⌜ a .0 < conceptCount (deckOf (now deck)) ⌝ }
+    requires { ⌜ e .0 < t .elements ⌝ }
+    ensures { λ r. ⌜ Built (deckOf (now (deck .entry))) bounds (lent (now (labels .entry)) (now (edges .entry)) (now (log .entry))) t (lent (now (labels .exit)) (now (edges .exit)) (now (log .exit))) (now (label .exit)) r
+        (spec.fireFrom (deckOf (now (deck .entry))) (now (floor .entry)) bounds (e .0) (listOf (now (deck .entry)) list) (a .0) (begun (deckOf (now (deck .entry))) (lent (now (labels .entry)) (now (edges .entry)) (now (log .entry))) t)) ⌝ }
+{
+    let count = list.count;
+    let mut i = 0;
+    let mut held = t;
+    while i < count {
+        let s = fire_pair(
+            deck,
+            bounds,
+            floor,
+            label,
+            labels,
+            edges,
+            log,
+            held,
+            a,
+            ConceptId(item(deck, list, i)),
+            e,
+        );
+        let tripped = s.tripped;
+        if tripped {
+            return s;
+        }
+        held = s.tally;
+        i += 1;
+    }
+    Step {
+        tally: held,
+        tripped: false,
+    }
+}
+
+// From each member to each.
+fn fire_equivalent(
+    deck: &[u8],
+    bounds: Bounds,
+    floor: &[u64],
+    label: &mut [u64],
+    labels: &mut [u64],
+    edges: &mut [[u32; 3]],
+    log: &mut [u32],
+    t: Tally,
+    list: Span,
+    e: Element,
+) -> Step
+    requires { ⌜ Prepared (now deck) bounds (lent (now labels) (now edges) (now log)) t (now floor) (now label) ⌝ }
+    requires { ⌜ ListFits (now deck) (conceptCount (deckOf (now deck))) list ⌝ }
+    requires { ⌜ e .0 < t .elements ⌝ }
+    ensures { λ r. ⌜ Built (deckOf (now (deck .entry))) bounds (lent (now (labels .entry)) (now (edges .entry)) (now (log .entry))) t (lent (now (labels .exit)) (now (edges .exit)) (now (log .exit))) (now (label .exit)) r
+        (spec.fireAxiom (deckOf (now (deck .entry))) (now (floor .entry)) bounds (e .0) (Axiom.EquivalentClasses (listOf (now (deck .entry)) list)) (begun (deckOf (now (deck .entry))) (lent (now (labels .entry)) (now (edges .entry)) (now (log .entry))) t)) ⌝ }
+{
+    let count = list.count;
+    let mut i = 0;
+    let mut held = t;
+    while i < count {
+        let s = fire_from(
+            deck,
+            bounds,
+            floor,
+            label,
+            labels,
+            edges,
+            log,
+            held,
+            list,
+            ConceptId(item(deck, list, i)),
+            e,
+        );
+        let tripped = s.tripped;
+        if tripped {
+            return s;
+        }
+        held = s.tally;
+        i += 1;
+    }
+    Step {
+        tally: held,
+        tripped: false,
+    }
+}
+
+// An axiom's rules at element e.
+fn fire_axiom(
+    deck: &[u8],
+    bounds: Bounds,
+    floor: &[u64],
+    label: &mut [u64],
+    labels: &mut [u64],
+    edges: &mut [[u32; 3]],
+    log: &mut [u32],
+    t: Tally,
+    axiom: u32,
+    e: Element,
+) -> Step
+    requires { ⌜ Prepared (now deck) bounds (lent (now labels) (now edges) (now log)) t (now floor) (now label) ⌝ }
+    requires { ⌜ «axiom» < axiomCount (deckOf (now deck)) ⌝ }
+    requires { ⌜ e .0 < t .elements ⌝ }
+    ensures { λ r. ⌜ Built (deckOf (now (deck .entry))) bounds (lent (now (labels .entry)) (now (edges .entry)) (now (log .entry))) t (lent (now (labels .exit)) (now (edges .exit)) (now (log .exit))) (now (label .exit)) r
+        (spec.fireAxiom (deckOf (now (deck .entry))) (now (floor .entry)) bounds (e .0) (axiomAt (deckOf (now (deck .entry))) «axiom») (begun (deckOf (now (deck .entry))) (lent (now (labels .entry)) (now (edges .entry)) (now (log .entry))) t)) ⌝ }
+{
+    let record = axiom_at(deck, axiom);
+    let tag = record.tag;
+    let x = record.first;
+    let y = record.second;
+    match tag {
+        0 => fire(
+            deck,
+            bounds,
+            floor,
+            label,
+            labels,
+            edges,
+            log,
+            t,
+            ConceptId(x),
+            ConceptId(y),
+            e,
+        ),
+        1 => fire_equivalent(
+            deck,
+            bounds,
+            floor,
+            label,
+            labels,
+            edges,
+            log,
+            t,
+            Span { start: x, count: y },
+            e,
+        ),
+        _ => Step {
+            tally: t,
+            tripped: false,
+        },
+    }
+}
+
+// All rules at element e.
+fn visit(
+    deck: &[u8],
+    bounds: Bounds,
+    floor: &[u64],
+    label: &mut [u64],
+    labels: &mut [u64],
+    edges: &mut [[u32; 3]],
+    log: &mut [u32],
+    t: Tally,
+    e: Element,
+) -> Step
+    requires { ⌜ Prepared (now deck) bounds (lent (now labels) (now edges) (now log)) t (now floor) (now label) ⌝ }
+    requires { ⌜ e .0 < t .elements ⌝ }
+    ensures { λ r. ⌜ Built (deckOf (now (deck .entry))) bounds (lent (now (labels .entry)) (now (edges .entry)) (now (log .entry))) t (lent (now (labels .exit)) (now (edges .exit)) (now (log .exit))) (now (label .exit)) r
+        (spec.visit (deckOf (now (deck .entry))) (now (floor .entry)) bounds (e .0) (begun (deckOf (now (deck .entry))) (lent (now (labels .entry)) (now (edges .entry)) (now (log .entry))) t)) ⌝ }
+{
+    let count = axiom_count(deck);
+    let mut i: u32 = 0;
+    let mut held = t;
+    while i < count {
+        let s = fire_axiom(deck, bounds, floor, label, labels, edges, log, held, i, e);
+        let tripped = s.tripped;
+        if tripped {
+            return s;
+        }
+        held = s.tally;
+        i += 1;
+    }
+    Step {
+        tally: held,
+        tripped: false,
+    }
+}
+
+// Every element that is present when the round begins.
+fn round(
+    deck: &[u8],
+    bounds: Bounds,
+    floor: &[u64],
+    label: &mut [u64],
+    labels: &mut [u64],
+    edges: &mut [[u32; 3]],
+    log: &mut [u32],
+    t: Tally,
+) -> Step
+    requires { ⌜ Prepared (now deck) bounds (lent (now labels) (now edges) (now log)) t (now floor) (now label) ⌝ }
+    ensures { λ r. ⌜ Built (deckOf (now (deck .entry))) bounds (lent (now (labels .entry)) (now (edges .entry)) (now (log .entry))) t (lent (now (labels .exit)) (now (edges .exit)) (now (log .exit))) (now (label .exit)) r
+        (spec.round (deckOf (now (deck .entry))) (now (floor .entry)) bounds (begun (deckOf (now (deck .entry))) (lent (now (labels .entry)) (now (edges .entry)) (now (log .entry))) t)) ⌝ }
+{
+    let count = t.elements;
+    let mut i: u32 = 0;
+    let mut held = t;
+    while i < count {
+        let e = Element(i);
+        let s = visit(deck, bounds, floor, label, labels, edges, log, held, e);
+        let tripped = s.tripped;
+        if tripped {
+            return s;
+        }
+        held = s.tally;
+        i += 1;
+    }
+    Step {
+        tally: held,
+        tripped: false,
+    }
+}
+
+// The rounds that may follow the first.
+fn later_rounds(most: u32) -> u32
+    ensures { λ r. ⌜ r ≡ most - 1 ⌝ }
+{
+    if most == 0 {
+        return 0;
+    }
+    most - 1
+}
+
+// The bound on rounds trips.
+fn trip_rounds(log: &mut [u32], limit: u32, t: Tally) -> Step
+    ensures { λ r. ⌜ (now (log .exit) ≡ noted (now (log .entry)) (t .reasons) (boundTripped 2 limit)) × (r ≡ record { tally = record { elements = t .elements; edges = t .edges; reasons = counted (t .reasons) }; tripped = true }) ⌝ }
+{
+    let reason = Reason {
+        kind: 3,
+        first: 2,
+        second: limit,
+    };
+    let reasons = note(log, t.reasons, reason);
+    Step {
+        tally: Tally {
+            elements: t.elements,
+            edges: t.edges,
+            reasons,
+        },
+        tripped: true,
+    }
+}
+
+// Rounds until one adds no element or trips a bound.
+pub fn expand_from_axioms(
+    deck: &[u8],
+    bounds: Bounds,
+    floor: &[u64],
+    label: &mut [u64],
+    labels: &mut [u64],
+    edges: &mut [[u32; 3]],
+    log: &mut [u32],
+    t: Tally,
+) -> Step
+    requires { ⌜ Prepared (now deck) bounds (lent (now labels) (now edges) (now log)) t (now floor) (now label) ⌝ }
+    ensures { λ r. ⌜ Built (deckOf (now (deck .entry))) bounds (lent (now (labels .entry)) (now (edges .entry)) (now (log .entry))) t (lent (now (labels .exit)) (now (edges .exit)) (now (log .exit))) (now (label .exit)) r
+        (spec.expandFromAxioms (deckOf (now (deck .entry))) (now (floor .entry)) bounds (begun (deckOf (now (deck .entry))) (lent (now (labels .entry)) (now (edges .entry)) (now (log .entry))) t)) ⌝ }
+{
+    let mut left = later_rounds(bounds.max_rounds);
+    let mut held = t;
+    loop {
+        let s = round(deck, bounds, floor, label, labels, edges, log, held);
+        let tripped = s.tripped;
+        if tripped {
+            return s;
+        }
+        let grown = s.tally;
+        if grown.elements == held.elements {
+            return s;
+        }
+        if left == 0 {
+            return trip_rounds(log, bounds.max_rounds, grown);
+        }
+        held = grown;
+        left -= 1;
+    }
+}
