@@ -47,7 +47,7 @@ pub top-bound : (D : Deck) (B : Bounds) → B .«max_elements» ≤ top D B
 top-bound D B = larger-right (classCount D) (B .«max_elements»)
 
 -- ---- edges and reasons, whatever the number of elements
-left-among : {limit : ℕ} {was : List (List ℕ)} {log : List ℕ} {t : Tally} {now : List (List ℕ)} {log′ : List ℕ} {r : Step} {s : State} → Left limit was log t now log′ r s → (n : ℕ)
+pub left-among : {limit : ℕ} {was : List (List ℕ)} {log : List ℕ} {t : Tally} {now : List (List ℕ)} {log′ : List ℕ} {r : Step} {s : State} → Left limit was log t now log′ r s → (n : ℕ)
     → Left limit was log (among n t) now log′ (record { tally = among n (r .tally); tripped = r .tripped }) s
 left-among L n = record {
   is = L .is;

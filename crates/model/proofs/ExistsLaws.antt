@@ -48,7 +48,8 @@ module _ (D : Deck) (floor : List ℕ) (B : Bounds) where
   unfolding work numbered workStep
   work-at c e m w = rw w
 
-  below-work : (c o : ℕ) → o < c → below (idle D floor B) (workStep D floor B) c o ≡ work D floor B o
+  -- a concept below another, as the work of that one sees it
+  pub below-work : (c o : ℕ) → o < c → below (idle D floor B) (workStep D floor B) c o ≡ work D floor B o
   unfolding work
   below-work c o h = below-is (idle D floor B) (workStep D floor B) c o h
 

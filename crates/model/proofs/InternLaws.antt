@@ -53,7 +53,8 @@ pub interned-new : (ls : List (List ℕ)) (l : List ℕ) → length ls ≤ index
 unfolding interned
 interned-new ls l h = rw (le-ltb _ _ h)
 
-by-cond : {A : Type 0} (P : A → Type 0) (b : Bool) (x y : A) → P x → P y → P (cond b x y)
+-- what holds of both holds of either
+pub by-cond : {A : Type 0} (P : A → Type 0) (b : Bool) (x y : A) → P x → P y → P (cond b x y)
 by-cond P true x y p q = p
 by-cond P false x y p q = q
 

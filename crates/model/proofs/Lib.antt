@@ -25,3 +25,8 @@ pub mod BodyLaws
 pub mod ExistsLaws
 pub mod AntecedentLaws
 pub mod RoundLaws
+pub mod KeepLaws
+pub mod ExpandKeeps
+pub mod RoundKeeps
+pub mod PhaseKeeps
+pub mod PhaseLaws

@@ -1,4 +1,5 @@
 -- Rounds of rules.
+--     axiom-case                        an axiom, by what it does to a model
 --     pair-stuck, …, visit-stuck        after a trip nothing changes
 --     fire-yes, fire-no                 a rule at an element, as the code tests it
 --     pair-same, pair-differs           two members
@@ -42,6 +43,37 @@ either : {A : Type 0} (b : Bool) {x y z : A} → x ≡ z → y ≡ z → cond b 
 either true p q = p
 either false p q = q
 
+-- ---- an axiom: what holds of the model as it was, of a rule, and of the pairs of a list holds after it
+module _ (D : Deck) (floor : List ℕ) (B : Bounds) (e : ℕ) (m : Model) (Q : Model → Type 0) (same : Q m) (rule : (ante sup : ℕ) → Q (fire D floor B e ante sup m)) (pairs : (l : List ℕ) → Q (walk (fireFrom D floor B e l) l m)) where
+  pub axiom-case : (x : Axiom) → Q (fireAxiom D floor B e x m)
+  unfolding fireAxiom
+  axiom-case (Axiom.SubClassOf sub sup) = rule sub sup
+  axiom-case (Axiom.EquivalentClasses l) = pairs l
+  axiom-case (Axiom.DisjointClasses l) = same
+  axiom-case (Axiom.DisjointUnion k l) = same
+  axiom-case (Axiom.SubObjectPropertyOf p q) = same
+  axiom-case (Axiom.SubObjectPropertyChain l q) = same
+  axiom-case (Axiom.EquivalentObjectProperties l) = same
+  axiom-case (Axiom.DisjointObjectProperties l) = same
+  axiom-case (Axiom.InverseObjectProperties p q) = same
+  axiom-case (Axiom.ObjectPropertyDomain r c) = same
+  axiom-case (Axiom.ObjectPropertyRange r c) = same
+  axiom-case (Axiom.TransitiveRole r) = same
+  axiom-case (Axiom.SymmetricRole r) = same
+  axiom-case (Axiom.AsymmetricRole r) = same
+  axiom-case (Axiom.ReflexiveRole r) = same
+  axiom-case (Axiom.IrreflexiveRole r) = same
+  axiom-case (Axiom.FunctionalRole r) = same
+  axiom-case (Axiom.InverseFunctionalRole r) = same
+  axiom-case (Axiom.ClassAssertion c i) = same
+  axiom-case (Axiom.ObjectPropertyAssertion r i j) = same
+  axiom-case (Axiom.NegativeObjectPropertyAssertion r i j) = same
+  axiom-case (Axiom.SameIndividual l) = same
+  axiom-case (Axiom.DifferentIndividuals l) = same
+  axiom-case (Axiom.DeclareClass k) = same
+  axiom-case (Axiom.DeclareObjectProperty r) = same
+  axiom-case (Axiom.DeclareNamedIndividual i) = same
+
 -- ---- after a trip
 module _ (D : Deck) (floor : List ℕ) (B : Bounds) (e : ℕ) (m : Model) (w : m .state .tripped ≡ true) where
   fire-stuck : (ante sup : ℕ) → fire D floor B e ante sup m ≡ m
@@ -57,33 +89,7 @@ module _ (D : Deck) (floor : List ℕ) (B : Bounds) (e : ℕ) (m : Model) (w : m
   from-stuck l a = walk-fixed (firePair D floor B e a) l m (pair-stuck a)
 
   pub axiom-stuck : (x : Axiom) → fireAxiom D floor B e x m ≡ m
-  unfolding fireAxiom
-  axiom-stuck (Axiom.SubClassOf sub sup) = fire-stuck sub sup
-  axiom-stuck (Axiom.EquivalentClasses l) = walk-fixed (fireFrom D floor B e l) l m (from-stuck l)
-  axiom-stuck (Axiom.DisjointClasses l) = refl
-  axiom-stuck (Axiom.DisjointUnion k l) = refl
-  axiom-stuck (Axiom.SubObjectPropertyOf p q) = refl
-  axiom-stuck (Axiom.SubObjectPropertyChain l q) = refl
-  axiom-stuck (Axiom.EquivalentObjectProperties l) = refl
-  axiom-stuck (Axiom.DisjointObjectProperties l) = refl
-  axiom-stuck (Axiom.InverseObjectProperties p q) = refl
-  axiom-stuck (Axiom.ObjectPropertyDomain r c) = refl
-  axiom-stuck (Axiom.ObjectPropertyRange r c) = refl
-  axiom-stuck (Axiom.TransitiveRole r) = refl
-  axiom-stuck (Axiom.SymmetricRole r) = refl
-  axiom-stuck (Axiom.AsymmetricRole r) = refl
-  axiom-stuck (Axiom.ReflexiveRole r) = refl
-  axiom-stuck (Axiom.IrreflexiveRole r) = refl
-  axiom-stuck (Axiom.FunctionalRole r) = refl
-  axiom-stuck (Axiom.InverseFunctionalRole r) = refl
-  axiom-stuck (Axiom.ClassAssertion c i) = refl
-  axiom-stuck (Axiom.ObjectPropertyAssertion r i j) = refl
-  axiom-stuck (Axiom.NegativeObjectPropertyAssertion r i j) = refl
-  axiom-stuck (Axiom.SameIndividual l) = refl
-  axiom-stuck (Axiom.DifferentIndividuals l) = refl
-  axiom-stuck (Axiom.DeclareClass k) = refl
-  axiom-stuck (Axiom.DeclareObjectProperty r) = refl
-  axiom-stuck (Axiom.DeclareNamedIndividual i) = refl
+  axiom-stuck = axiom-case D floor B e m (λ k. k ≡ m) refl fire-stuck (λ l. walk-fixed (fireFrom D floor B e l) l m (from-stuck l))
 
   pub visit-stuck : visit D floor B e m ≡ m
   unfolding visit

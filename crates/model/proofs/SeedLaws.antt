@@ -1,7 +1,7 @@
 -- Seeding: what the loop keeps, which labels there are, and the element of a satisfiable real class.
 -- Assumes nothing.
 use mathlib.Core.Path.{_≡_, refl, sym, ap, _∙_}
-use mathlib.Core.Bool.{Bool, true, false, cond}
+use mathlib.Core.Bool.{true, false}
 use mathlib.Core.List.{List, [], map, List·Memᴰ as Member}
 use mathlib.Core.Logic.{⊎-elim}
 use Prim.Native.Nat.{ℕ, zero, suc, _+_, _≤_, _<_}
@@ -25,7 +25,7 @@ use Rattle.model.specs.Seed.{names, isSeeded, rowLabel, seeds, lastLabel
 use Rattle.model.proofs.LabelLaws.{length-label-of}
 use Rattle.model.proofs.MemberLaws.{has-label}
 use Rattle.model.proofs.FloorLaws.{floor-off, length-floored}
-use Rattle.model.proofs.InternLaws.{Extends, extends-length, extends-at, member-label, interned-wide, interned-grows, held-none, held-intern, interned-keeps, interned-has}
+use Rattle.model.proofs.InternLaws.{by-cond, Extends, extends-length, extends-at, member-label, interned-wide, interned-grows, held-none, held-intern, interned-keeps, interned-has}
 
 -- ---- which classes
 -- stands for a fact past the count
@@ -68,10 +68,6 @@ module _ (D : Deck) (floor : List ℕ) where
   seeds-skip : (k : ℕ) → isSeeded D k ≡ false → seeds D floor (k + 1) ≡ seeds D floor k
   unfolding seeds
   seeds-skip k h = rw (add-one, h)
-
-  by-cond : {A : Type 0} (P : A → Type 0) (b : Bool) (x y : A) → P x → P y → P (cond b x y)
-  by-cond P true x y p q = p
-  by-cond P false x y p q = q
 
   pub seeds-wide : (k : ℕ) → Wide (labelWidth D) (seeds D floor k)
   unfolding seeds

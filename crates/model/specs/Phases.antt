@@ -1,16 +1,20 @@
 -- The four phases: document 01, section 3, "The sequence 1 seed, 2 expand, 3 axioms, 4 closing is ours".
-use Prim.Native.Nat.{ℕ}
+use Prim.Native.Nat.{ℕ, _+_, _≤_}
+use mathlib.Core.Path.{_≡_}
 use mathlib.Core.Bool.{false, cond}
-use mathlib.Core.List.{List, []}
+use mathlib.Core.List.{List, [], map}
 use lib.ListN.{length}
 use lib.Dec.{leb, ltb}
 use Rattle.deck.specs.Deck.{Deck, classCount}
+use Rattle.eval.specs.Edges.{rowOf}
 use Rattle.model.specs.declared.bounds.Bounds.{Bounds}
+use Rattle.model.specs.declared.tally.Tally.{Tally}
+use Rattle.model.specs.Rows.{put, flat}
 use Rattle.model.specs.Floor.{floorLabel}
 use Rattle.model.specs.Seed.{seeds}
-use Rattle.model.specs.Reasons.{axiomsDropped}
+use Rattle.model.specs.Reasons.{axiomsDropped, noted, counted}
 use Rattle.model.specs.Closing.{close}
-use Rattle.model.specs.Model.{Model, withState, noteIn}
+use Rattle.model.specs.Model.{Model, withState, noteIn, Buffers, top}
 use Rattle.model.specs.Expand.{expand}
 use Rattle.model.specs.Rounds.{expandFromAxioms}
 
@@ -42,3 +46,22 @@ module _ (D : Deck) where
   -- all that is built
   unfoldable pub construct : Bounds → ℕ → List ℕ → Model
   construct B last log = withDropped (phases B last log)
+
+-- how much of the buffers is in use, and how many reasons were given
+abbrev pub tallyOf : Model → Tally
+tallyOf m = record { elements = length (m .labels); edges = length (m .state .edges); reasons = m .state .reasons }
+
+-- ---- what the functions leave
+-- the log and the tally after reason 4
+pub record Dropped (D : Deck) (log : List ℕ) (t : Tally) (log′ : List ℕ) (t′ : Tally) : Type 0 where
+  pub log-is : log′ ≡ cond (ltb 0 (D .dropped)) (noted log (t .reasons) (axiomsDropped (D .dropped))) log
+  pub tally : t′ ≡ record { elements = t .elements; edges = t .edges; reasons = cond (ltb 0 (D .dropped)) (counted (t .reasons)) (t .reasons) }
+
+-- the buffers hold what is built at their start and are as they were past it
+pub record Constructed (D : Deck) (B : Bounds) (last : ℕ) (b b′ : Buffers) (t : Tally) : Type 0 where
+  pub labels : b′ .labels ≡ put (b .labels) (flat (construct D B last (b .log) .labels))
+  pub edges : b′ .edges ≡ put (b .edges) (map rowOf (construct D B last (b .log) .state .edges))
+  pub log : b′ .log ≡ construct D B last (b .log) .state .log
+  pub tally : t ≡ tallyOf (construct D B last (b .log))
+  pub few : t .elements ≤ top D B + 1
+  pub room : t .edges ≤ length (b′ .edges)

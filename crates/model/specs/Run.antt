@@ -22,7 +22,7 @@ use Rattle.model.specs.declared.tally.Tally.{Tally}
 use Rattle.model.specs.declared.run.RunAnswer.{RunAnswer}
 use Rattle.model.specs.Rows.{put, flat}
 use Rattle.model.specs.Model.{Model, top}
-use Rattle.model.specs.Phases.{construct}
+use Rattle.model.specs.Phases.{construct, tallyOf}
 use Rattle.model.specs.Outcome.{outcomeOf}
 
 -- "8: elements or rounds above 65,535, edges above 1,048,575, last phase not 1 to 4"
@@ -46,10 +46,7 @@ pub record Ran : Type 0 where
   pub log : List ℕ
   pub verdicts : List ℕ
 
--- how much of the buffers is in use, and how many reasons were given
-abbrev pub tallyOf : Model → Tally
-tallyOf m = record { elements = length (m .labels); edges = length (m .state .edges); reasons = m .state .reasons }
-
+-- as much of the structure's buffers as is in use
 abbrev pub shapeIn : Tally → Shape
 shapeIn t = record { elements = t .elements; edges = t .edges }
 

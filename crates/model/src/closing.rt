@@ -1,12 +1,11 @@
 // Closing the edges under two-link chains and transitive roles, until a pass adds nothing.
-ghost use mathlib.Core.Path.{_≡_};
 ghost use Prim.Native.Nat.{_*_, _<_};
 ghost use Rattle.deck.specs.Content.{IsAccepted, deckOf};
 ghost use Rattle.deck.specs.Deck.{axiomAt, axiomCount, roleCount};
 ghost use Rattle.model.specs.Closing as spec;
 ghost use Rattle.model.specs.Closing.{Ready};
 ghost use Rattle.model.specs.Pairs.{pairOf};
-ghost use Rattle.model.specs.Push.{Left, Room, answer, start, stored};
+ghost use Rattle.model.specs.Push.{Left, Room, start};
 use crate::bounds::Bounds;
 use crate::pairs::Found;
 use crate::pairs::next_pair;
@@ -205,10 +204,7 @@ pub fn close_chains_and_transitivity(
     t: Tally,
 ) -> Step
     requires { ⌜ Ready (now deck) (bounds .«max_edges») (now edges) t ⌝ }
-    ensures is { λ r. ⌜ r ≡ answer (t .elements) (spec.close (deckOf (now (deck .entry))) (t .elements) (bounds .«max_edges») (start (now (edges .entry)) (now (log .entry)) t)) ⌝ }
-    ensures stored { λ r. ⌜ now (edges .exit) ≡ stored (now (edges .entry)) (t .edges) (spec.close (deckOf (now (deck .entry))) (t .elements) (bounds .«max_edges») (start (now (edges .entry)) (now (log .entry)) t) .edges) ⌝ }
-    ensures logged { λ r. ⌜ now (log .exit) ≡ spec.close (deckOf (now (deck .entry))) (t .elements) (bounds .«max_edges») (start (now (edges .entry)) (now (log .entry)) t) .log ⌝ }
-    ensures left { λ r. ⌜ Left (bounds .«max_edges») (now (edges .entry)) (now (log .entry)) t (now (edges .exit)) (now (log .exit)) r (spec.close (deckOf (now (deck .entry))) (t .elements) (bounds .«max_edges») (start (now (edges .entry)) (now (log .entry)) t)) ⌝ }
+    ensures { λ r. ⌜ Left (bounds .«max_edges») (now (edges .entry)) (now (log .entry)) t (now (edges .exit)) (now (log .exit)) r (spec.close (deckOf (now (deck .entry))) (t .elements) (bounds .«max_edges») (start (now (edges .entry)) (now (log .entry)) t)) ⌝ }
 {
     close_passes(deck, bounds.max_edges, edges, log, t)
 }

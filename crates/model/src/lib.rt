@@ -12,6 +12,7 @@ pub mod labels;
 pub mod need;
 pub mod outcome;
 pub mod pairs;
+pub mod phases;
 pub mod push;
 pub mod reach;
 pub mod reasons;

@@ -1,4 +1,3 @@
-use Rattle.model.proofs.PushLaws.{left-answer, left-words, left-log}
 use borrow.Author.Needs.{needs}
 use Rattle.model.proofs.closing.close_chains_and_transitivity.Statement.{statement}
 use Rattle.model.proofs.closing.close_chains_and_transitivity.Tie as tie
@@ -16,7 +15,7 @@ same-length-2 : tie.Need-same-length-2
 same-length-2 c = search needs
 
 returns : tie.Need-returns
-returns c = let L = c .before .before .before .close-passes .ensures in (left-answer L, (left-words L, (left-log L, L)))
+returns c = c .before .before .before .close-passes .ensures
 
 pub close-chains-and-transitivity-spec : {M : Type 1} → statement M
 close-chains-and-transitivity-spec =

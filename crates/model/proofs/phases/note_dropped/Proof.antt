@@ -1,0 +1,33 @@
+use mathlib.Core.Path.{refl, sym, _∙_}
+use native.Mathlib.Omega.{arith}
+use Rattle.model.proofs.PhaseLaws.{dropped-none, dropped-some}
+use borrow.Author.Needs.{needs}
+use Rattle.model.proofs.phases.note_dropped.Statement.{statement}
+use Rattle.model.proofs.phases.note_dropped.Tie as tie
+use Rattle.model.proofs.phases.note_dropped.Reads as reads
+use Rattle.model.proofs.phases.note_dropped.Lts as lts
+
+dropped-count-requires : tie.Need-dropped-count-requires
+dropped-count-requires c κs = c .before .before .pre
+
+returns : tie.Need-returns
+returns c = dropped-none _ _ _ (sym (c .before .dropped-count .ensures) ∙ c .if1 .taken)
+
+note-requires : tie.Need-note-requires
+note-requires c κs = search needs
+
+same-length : tie.Need-same-length
+same-length c = c .before .before .note .kept .0
+
+returns-2 : tie.Need-returns-2
+returns-2 c = dropped-some _ _ _ (c .before .before .before .before .before .dropped-count .ensures) (c .before .before .before .before .if1 .left) (c .before .before .note .ensures .0) (c .before .before .note .ensures .1)
+
+pub note-dropped-spec : {M : Type 1} → statement M
+note-dropped-spec =
+    tie.close
+    (tie.spec
+    dropped-count-requires
+    returns
+    note-requires
+    same-length
+    returns-2)
