@@ -1,10 +1,10 @@
 -- The label of a body's target: one atom, a concept by its form, and what closes it.
 -- Assumes nothing.
 use Prim.Native.Nat.{ℕ}
-use mathlib.Core.Bool.{true, false}
+use mathlib.Core.Bool.{Bool, true, false, cond}
 use mathlib.Core.Path.{_≡_, refl, sym, ap, subst, _∙_}
 use mathlib.Core.List.{List, [], _∷_, flatMap}
-use lib.ListN.{length, replicate}
+use lib.ListN.{length, replicate, length-replicate}
 use types.Run.{OneOf}
 use denote.Enum.Declared.{tagOf}
 use Rattle.deck.proofs.concepts.ConceptExpr.{the-type}
@@ -23,9 +23,10 @@ use Rattle.model.specs.Label.{insertAll}
 use Rattle.model.specs.Floor.{requiredAtoms}
 use Rattle.model.specs.Reasons.{noted, counted, runDelta, labelNotClosed}
 use Rattle.model.specs.Target.{targetOf}
-use Rattle.model.specs.Exists.{Body, body, Joined, met, rowOfClass, joinBy, joinAtom, joinAtoms, noAtoms, closeBody, bodyOf}
+use Rattle.model.specs.Exists.{Body, body, Joined, met, rowOfClass, joinBy, joinAtom, joinAtoms, noAtoms, noted-in, withRanges, closeBody, bodyOf}
 use Rattle.model.proofs.FloorLaws.{atoms-atomic, atoms-and, atoms-other}
-use Rattle.model.proofs.WalkLaws.{walk-flat}
+use Rattle.model.proofs.WalkLaws.{walk-flat, walk-keeps}
+use Rattle.model.proofs.LabelLaws.{length-insert-all}
 
 -- ---- one more atom
 pub met-again : (a : ℕ) (j : Atoms) → j .found ≡ true → j ≡ met a j
@@ -82,3 +83,28 @@ module _ (D : Deck) (r b : ℕ) (log : List ℕ) (n : ℕ) (l₁ l₀ : List ℕ
 
   pub close-open : j .found ≡ true → j .unclosed ≡ true → {g′ : List ℕ} {n′ : ℕ} → g′ ≡ noted g (j .reasons) (labelNotClosed (j .first .0) r) → n′ ≡ counted (j .reasons) → Joined l g′ n′ (bodyOf D r b log n)
   close-open e u {g′} {n′} p q = subst (Joined l g′ n′) close-is (rw (e, u) (record { label = refl; log = p; reasons = q }))
+
+-- ---- the label keeps its width
+module _ (D : Deck) where
+  by-wide : (a : ℕ) (t : Target) (s : Body) → length (joinBy D a t s .label) ≡ length (s .label)
+  by-wide a (Row k) s = length-insert-all (s .label) (rowOfClass D (k .0))
+  by-wide a (Delta k) s = length-insert-all (s .label) (rowOfClass D (k .0))
+  by-wide a NotClosed s = length-insert-all (s .label) (rowOfClass D a)
+
+  atoms-wide : (r c w : ℕ) (s : Body) → length (s .label) ≡ w → length (joinAtoms D r c s .label) ≡ w
+  unfolding joinAtoms joinAtom
+  atoms-wide r c w s e = walk-keeps (λ (b : Body). length (b .label) ≡ w) (joinAtom D r) (requiredAtoms D c) (λ a i b q. by-wide a (targetOf D a r) b ∙ q) s e
+
+  close-wide : (r w : ℕ) (s : Body) → length (s .label) ≡ w → length (closeBody D r s .label) ≡ w
+  close-wide r w s e = by (s .atoms .found) (s .atoms .unclosed)
+    where
+      by : (f u : Bool) → length (cond f (cond u (noted-in (labelNotClosed (s .atoms .first .0) r) s) s) (withRanges D r s) .label) ≡ w
+      by true true = e
+      by true false = e
+      by false u = length-insert-all (s .label) (flatMap (rowOfClass D) (roleAt D r .range)) ∙ e
+
+  pub body-wide : (r b : ℕ) (log : List ℕ) (n : ℕ) → length (bodyOf D r b log n .label) ≡ labelWidth D
+  unfolding bodyOf
+  body-wide r b log n =
+      let s = body (replicate (labelWidth D) 0) log (noAtoms n) in
+      close-wide r (labelWidth D) (joinAtoms D r b s) (atoms-wide r b (labelWidth D) s (length-replicate {A = ℕ} (labelWidth D) 0))

@@ -19,7 +19,7 @@ use Rattle.model.specs.Target.{targetOf}
 use Rattle.model.specs.Model.{Model, noteIn}
 use Rattle.model.specs.Expand.{highest, linkTarget, workFact, factStep, workFacts, classStep, workClasses, nextTurn, turns, expand}
 use Rattle.model.proofs.InternLaws.{by-cond}
-use Rattle.model.proofs.SeedLaws.{noFact}
+use Rattle.model.proofs.SeedLaws.{noFact, length-row-label}
 use Rattle.model.proofs.ExpandLaws.{highest-is}
 use Rattle.model.proofs.KeepLaws.{Kept, kept-same, kept-trans, note-kept, walk-kept, reach-kept}
 
@@ -30,8 +30,8 @@ module _ (D : Deck) (W : Sound D) (floor : List ℕ) (B : Bounds) where
   -- ---- from an element
   module _ (e : ℕ) where
     link-kept : (y r : ℕ) (target : Target) (m : Model) → r < roleCount D → e < length (m .labels) → Kept D m (linkTarget D floor B e y r target m)
-    link-kept y r (Row k) m hr he = reach-kept B r e (rowLabel D floor (k .0)) m hr he
-    link-kept y r (Delta k) m hr he = kept-trans (note-kept (runDelta y) m) (reach-kept B r e (rowLabel D floor (k .0)) (noteIn (runDelta y) m) hr he)
+    link-kept y r (Row k) m hr he = reach-kept B r e (rowLabel D floor (k .0)) m (length-row-label D floor (k .0)) hr he
+    link-kept y r (Delta k) m hr he = kept-trans (note-kept (runDelta y) m) (reach-kept B r e (rowLabel D floor (k .0)) (noteIn (runDelta y) m) (length-row-label D floor (k .0)) hr he)
     link-kept y r NotClosed m hr he = note-kept (labelNotClosed y r) m
 
     fact-kept : (k : ℕ) (f : Fact) → Member f (D .facts) → (m : Model) → e < length (m .labels) → Kept D m (factStep D floor B e k f m)

@@ -38,7 +38,7 @@ four-words (GuardedRoleHasEdges r) = refl
 pub stored-words : (was : List ℕ) {now : List ℕ} (n : ℕ) (w : List ℕ) (v : Verdict) → w ≡ wordsOf v → now ≡ sets was n (getD w 0 0 ∷ getD w 1 0 ∷ getD w 2 0 ∷ getD w 3 0 ∷ []) → now ≡ sets was n (wordsOf v)
 stored-words was n w v p q = q ∙ ap (sets was n) (ap (λ (l : List ℕ). getD l 0 0 ∷ getD l 1 0 ∷ getD l 2 0 ∷ getD l 3 0 ∷ []) p ∙ four-words v)
 
-length-words : (v : Verdict) → length (wordsOf v) ≡ 4
+pub length-words : (v : Verdict) → length (wordsOf v) ≡ 4
 length-words v = ap length (sym (four-words v))
 
 or-assoc : (a b c : Bool) → ((a || b) || c) ≡ (a || (b || c))

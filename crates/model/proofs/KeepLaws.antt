@@ -22,24 +22,27 @@ use Rattle.model.specs.Walk.{walk}
 use Rattle.model.specs.Intern.{indexOf, interned}
 use Rattle.model.specs.Reasons.{boundTripped}
 use Rattle.model.specs.Push.{State, edge, added, pushEdge}
+use Rattle.eval.specs.Lent.{labelWidth}
+use Rattle.model.specs.Rows.{Wide}
 use Rattle.model.specs.Closing.{EdgesFit}
 use Rattle.model.specs.Model.{Model, noteState, tripState, noteIn, tripIn, withState, reach}
 use Rattle.model.specs.Exists.{Body, withReasons}
-use Rattle.model.proofs.InternLaws.{Extends, extends-same, extends-trans, extends-interned, extends-length, interned-known, interned-new, interned-grows, by-cond, index-le}
+use Rattle.model.proofs.InternLaws.{Extends, extends-same, extends-trans, extends-interned, extends-length, interned-known, interned-new, interned-grows, interned-wide, by-cond, index-le}
 use Rattle.model.proofs.CloseLaws.{fits-snoc}
 use Rattle.model.proofs.WalkLaws.{walk-keeps}
 
--- elements keep their labels, and edges that fit still fit
+-- elements keep their labels, every label has its width, and edges that fit still fit
 pub record Kept (D : Deck) (m m′ : Model) : Type 0 where
   pub extends : Extends (m .labels) (m′ .labels)
+  pub wide : Wide (labelWidth D) (m .labels) → Wide (labelWidth D) (m′ .labels)
   pub fits : EdgesFit D (length (m .labels)) (m .state .edges) → EdgesFit D (length (m′ .labels)) (m′ .state .edges)
 
 module _ {D : Deck} where
   pub kept-same : (m : Model) → Kept D m m
-  kept-same m = record { extends = extends-same (m .labels); fits = λ F. F }
+  kept-same m = record { extends = extends-same (m .labels); wide = λ w. w; fits = λ F. F }
 
   pub kept-trans : {m k n : Model} → Kept D m k → Kept D k n → Kept D m n
-  kept-trans X Y = record { extends = extends-trans (X .extends) (Y .extends); fits = λ F. Y .fits (X .fits F) }
+  kept-trans X Y = record { extends = extends-trans (X .extends) (Y .extends); wide = λ w. Y .wide (X .wide w); fits = λ F. Y .fits (X .fits F) }
 
   -- an element stays one
   pub kept-below : {m k : Model} → Kept D m k → {n : ℕ} → n ≤ length (m .labels) → n ≤ length (k .labels)
@@ -47,7 +50,7 @@ module _ {D : Deck} where
 
   -- ---- edges as they were
   pub kept-state : (m : Model) (s : State) → s .edges ≡ m .state .edges → Kept D m (withState m s)
-  kept-state m s e = record { extends = extends-same (m .labels); fits = λ F. rw e F }
+  kept-state m s e = record { extends = extends-same (m .labels); wide = λ w. w; fits = λ F. rw e F }
 
   pub note-kept : (x : Reason) (m : Model) → Kept D m (noteIn x m)
   note-kept x m = kept-state m (noteState x (m .state)) refl
@@ -84,13 +87,14 @@ push-fits D n limit e s F f =
     by-cond Q (s .tripped) s (cond (edgeIn (s .edges) (e .role .0) (e .from .0) (e .to .0)) s (added limit e s)) F
     (by-cond Q (edgeIn (s .edges) (e .role .0) (e .from .0) (e .to .0)) s (added limit e s) F (fits-snoc D n (s .edges) e F f))
 
-pub reach-kept : {D : Deck} (B : Bounds) (r x : ℕ) (l : List ℕ) (m : Model) → r < roleCount D → x < length (m .labels) → Kept D m (reach B r x l m)
+pub reach-kept : {D : Deck} (B : Bounds) (r x : ℕ) (l : List ℕ) (m : Model) → length l ≡ labelWidth D → r < roleCount D → x < length (m .labels) → Kept D m (reach B r x l m)
 unfolding reach
-reach-kept {D} B r x l m hr hx =
+reach-kept {D} B r x l m hl hr hx =
     let ls : List (List ℕ) = interned (m .labels) l in
     let more : length (m .labels) ≤ length ls = interned-grows (m .labels) l .0 in
     record {
       extends = extends-interned (m .labels) l;
+      wide = λ w. interned-wide l w hl;
       fits = λ F.
           let G : EdgesFit D (length ls) (m .state .edges) = fits-more D (m .state .edges) more F in
           by-cond (λ (s : State). EdgesFit D (length ls) (s .edges)) (ltb (B .«max_elements») (length ls)) (tripState (boundTripped 0 (B .«max_elements»)) (m .state))

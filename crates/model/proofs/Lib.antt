@@ -30,3 +30,4 @@ pub mod ExpandKeeps
 pub mod RoundKeeps
 pub mod PhaseKeeps
 pub mod PhaseLaws
+pub mod RunLaws

@@ -5,7 +5,9 @@ use mathlib.Core.Path.{_≡_}
 use mathlib.Core.List.{List, List·Memᴰ·not-nil as nothing-in}
 use lib.ListN.{length}
 use lib.Dec.{leb, ltb}
-use Rattle.deck.specs.Deck.{Deck, classAt}
+use Rattle.deck.specs.Deck.{Deck, classAt, classCount}
+use Rattle.eval.specs.Lent.{labelWidth}
+use Rattle.model.specs.Rows.{Wide}
 use Rattle.deck.specs.Sound.{Sound}
 use Rattle.model.specs.declared.bounds.Bounds.{Bounds}
 use Rattle.model.specs.Floor.{floorLabel}
@@ -17,7 +19,7 @@ use Rattle.model.specs.Expand.{expand}
 use Rattle.model.specs.Rounds.{expandFromAxioms}
 use Rattle.model.specs.Phases.{phase, seeded, closeIn, laterPhases, phases, withDropped, construct}
 use Rattle.model.proofs.InternLaws.{extends-same, by-cond}
-use Rattle.model.proofs.SeedLaws.{real-seed, row-kept}
+use Rattle.model.proofs.SeedLaws.{real-seed, row-kept, seeds-wide}
 use Rattle.model.proofs.Closed.{close-fits}
 use Rattle.model.proofs.KeepLaws.{Kept, kept-same, kept-trans, note-kept}
 use Rattle.model.proofs.ExpandKeeps.{expand-kept}
@@ -35,7 +37,7 @@ dropped-kept D m = by-cond (Kept D m) (ltb 0 (D .dropped)) (noteIn (axiomsDroppe
 module _ (D : Deck) (W : Sound D) (B : Bounds) where
   pub close-kept : (m : Model) → Kept D m (closeIn D B m)
   unfolding closeIn
-  close-kept m = record { extends = extends-same (m .labels); fits = close-fits D (length (m .labels)) (B .«max_edges») W (m .state) }
+  close-kept m = record { extends = extends-same (m .labels); wide = λ w. w; fits = close-fits D (length (m .labels)) (B .«max_edges») W (m .state) }
 
   module _ (last : ℕ) where
     pub later-kept : (m : Model) → Kept D m (laterPhases D B last m)
@@ -59,6 +61,10 @@ module _ (D : Deck) (W : Sound D) (B : Bounds) where
       pub construct-fits : EdgesFit D (length (construct D B last log .labels)) (construct D B last log .state .edges)
       unfolding seeded EdgesFit
       construct-fits = construct-kept .fits (λ e i. absurd (nothing-in i))
+
+      pub construct-wide : Wide (labelWidth D) (construct D B last log .labels)
+      unfolding seeded
+      construct-wide = construct-kept .wide (seeds-wide D (floorLabel D) (classCount D))
 
       -- the element of a satisfiable real class is among the seeds
       pub construct-row : (c : ℕ) → c < D .real → classAt D c .unsatisfiable ≡ false → HasRow D (construct D B last log .labels) c

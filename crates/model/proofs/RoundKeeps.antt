@@ -1,12 +1,14 @@
 -- Rounds of rules keep labels, and edges that fit: a Some's role is one of R, and its body is worked from the element that its label became.
 use Prim.Native.Nat.{ℕ, zero, suc, _-_, _<_}
 use mathlib.Core.Bool.{_||_, _&&_}
+use mathlib.Core.Path.{_≡_, _∙_}
 use mathlib.Core.List.{List, []}
 use native.Mathlib.Omega.{arith}
 use lib.ListN.{length, getD}
 use lib.Dec.{eqb}
 use Rattle.deck.specs.Deck.{Deck, Role, Concept, Axiom, conceptAt}
 use Rattle.deck.specs.Sound.{Sound, ConceptFits, countsIn}
+use Rattle.eval.specs.Lent.{labelWidth}
 use Rattle.eval.specs.Lists.{range}
 use Rattle.eval.specs.Numbered.{numbered, below}
 use Rattle.eval.proofs.Falling.{falling}
@@ -19,9 +21,14 @@ use Rattle.model.specs.Model.{Model, tripIn, reach}
 use Rattle.model.specs.Exists.{bodyIn, bodyLabel, withReasons, reachBody, workOf, workStep, idle, work}
 use Rattle.model.specs.Rounds.{isRule, holdsAtoms, fire, firePair, fireFrom, fireAxiom, visit, round, rounds, expandFromAxioms}
 use Rattle.model.proofs.InternLaws.{by-cond}
+use Rattle.model.proofs.FloorLaws.{length-floored}
+use Rattle.model.proofs.BodyLaws.{body-wide}
 use Rattle.model.proofs.ExistsLaws.{below-work}
 use Rattle.model.proofs.RoundLaws.{axiom-case}
 use Rattle.model.proofs.KeepLaws.{Kept, kept-same, kept-trans, trip-kept, reasons-kept, walk-kept, index-below, reach-kept}
+
+body-label-wide : (D : Deck) (floor : List ℕ) (B : Bounds) (r b : ℕ) (m : Model) → length (bodyLabel D floor B r b m) ≡ labelWidth D
+body-label-wide D floor B r b m = length-floored D floor (bodyIn D floor B r b m .label) ∙ body-wide D r b (m .state .log) (m .state .reasons)
 
 module _ (D : Deck) (W : Sound D) (floor : List ℕ) (B : Bounds) where
   -- ---- a consequent from an element: `work` of smaller concepts keeps
@@ -32,7 +39,7 @@ module _ (D : Deck) (W : Sound D) (floor : List ℕ) (B : Bounds) where
   of-kept c (Concept.Some (Role.Named r) b) F f ih e m h =
       let l = bodyLabel D floor B r b m in
       let k = withReasons m (bodyIn D floor B r b m) in
-      kept-trans (reasons-kept m (bodyIn D floor B r b m)) (kept-trans (reach-kept B r e l k (F .0) h) (ih b (F .1) (indexOf (m .labels) l) (reach B r e l k) (index-below (m .labels) l)))
+      kept-trans (reasons-kept m (bodyIn D floor B r b m)) (kept-trans (reach-kept B r e l k (body-label-wide D floor B r b m) (F .0) h) (ih b (F .1) (indexOf (m .labels) l) (reach B r e l k) (index-below (m .labels) l)))
   of-kept c (Concept.Some (Role.Inverse r) b) F f ih e m h = kept-same m
   of-kept c Concept.Top F f ih e m h = kept-same m
   of-kept c Concept.Bot F f ih e m h = kept-same m

@@ -17,3 +17,4 @@ pub mod Rounds
 pub mod Phases
 pub mod Outcome
 pub mod Run
+pub mod Trust

@@ -46,6 +46,9 @@ pub record Ran : Type 0 where
   pub log : List ℕ
   pub verdicts : List ℕ
 
+abbrev pub ran : RunAnswer → List ℕ → List (List ℕ) → List ℕ → List ℕ → Ran
+ran answer labels edges log verdicts = record { answer = answer; labels = labels; edges = edges; log = log; verdicts = verdicts }
+
 -- as much of the structure's buffers as is in use
 abbrev pub shapeIn : Tally → Shape
 shapeIn t = record { elements = t .elements; edges = t .edges }
@@ -76,8 +79,8 @@ accepted D B last labels edges log verdicts =
 
 -- "A refusal returns only its number; lent memory stays untouched"
 abbrev pub unlessRefused : DeckAnswer → Ran → List ℕ → List (List ℕ) → List ℕ → List ℕ → Ran
-unlessRefused Accepted ran labels edges log verdicts = ran
-unlessRefused (Refused r) ran labels edges log verdicts = record { answer = RunAnswer.Refused r; labels = labels; edges = edges; log = log; verdicts = verdicts }
+unlessRefused Accepted done labels edges log verdicts = done
+unlessRefused (Refused r) done labels edges log verdicts = ran (RunAnswer.Refused r) labels edges log verdicts
 
 unfoldable pub run : List ℕ → Bounds → ℕ → List ℕ → List (List ℕ) → List ℕ → List ℕ → Ran
 run s B last labels edges log verdicts =
