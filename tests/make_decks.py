@@ -18,10 +18,10 @@ A run is a count, a width, and
 The deck is what the runs made, cut to its length.
 """
 import copy
-import pathlib
 import random
 import struct
-import sys
+
+from shared import check_name, finish, padded
 
 BIG = 4294967295
 LIMITS = (4096, 1024, 4096, 16384, 16384, 16384, 262144)
@@ -53,7 +53,7 @@ class Reader:
         words = struct.unpack('<%dI' % (len(deck) // 4), deck)
         body, trailer = words[:-18], words[-18:]
         refuse(2, trailer[0] != 1)
-        self.real = trailer[1]
+        self.real, self.dropped = trailer[1], trailer[2]
         counts, starts = trailer[3:17:2], trailer[4:17:2]
         refuse(3, any(count > limit for count, limit in zip(counts, LIMITS)))
         at, parts = 0, []
@@ -244,8 +244,7 @@ def case(name, expected, deck, *edits):
 
 
 def add(name, data, found):
-    assert len(name) <= 40 and name.isascii() and ' ' not in name and name == name.lower(), name
-    assert all(name != other for other, _, _ in CASES), name
+    check_name(name, CASES)
     CASES.append((name, data, found))
 
 
@@ -767,9 +766,9 @@ def runs(words):
 
 
 def encoded(name, data):
-    padded = data + b'\0' * (-len(data) % 4)
-    made = runs(struct.unpack('<%dI' % (len(padded) // 4), padded))
-    label = name.encode() + b'\0' * (-len(name) % 4)
+    whole = padded(data)
+    made = runs(struct.unpack('<%dI' % (len(whole) // 4), whole))
+    label = padded(name.encode())
     flat = [word for run in made for word in run]
     return struct.pack('<3I', len(name), len(data), len(made)) + label + struct.pack('<%dI' % len(flat), *flat)
 
@@ -780,15 +779,7 @@ def main():
         make()
     given = b''.join(encoded(name, data) for name, data, _ in CASES)
     wanted = ''.join('%s %d\n' % (name, found) for name, _, found in CASES) + '%d decks\n' % len(CASES)
-    crate = pathlib.Path(__file__).resolve().parent.parent / 'crates' / 'test_deck'
-    files = ((crate / 'stdin', given), (crate / 'stdout', wanted.encode()))
-    if '--check' in sys.argv[1:]:
-        stale = [path.name for path, text in files if not path.exists() or path.read_bytes() != text]
-        print('stale: ' + ' '.join(stale) if stale else 'up to date')
-        sys.exit(1 if stale else 0)
-    for path, text in files:
-        path.write_bytes(text)
-    print('%d decks, %d bytes of data' % (len(CASES), len(given)))
+    finish('test_deck', given, wanted.encode(), '%d decks, %d bytes of data' % (len(CASES), len(given)))
 
 
 if __name__ == '__main__':

@@ -30,6 +30,7 @@ import sys
 sys.path.insert(0, str(pathlib.Path(__file__).resolve().parent))
 from make_decks import (AXIOM_FORMS, BIG, CONCEPT_FORMS, Deck, Reader, Refused, base, deck_w, number,  # noqa: E402
                         refuse)
+from shared import check_name, finish, padded  # noqa: E402
 
 (TOP, BOT, ATOMIC, NOMINAL, SELF, NOT, AND, OR, SOME, ALL, MIN, MAX) = range(12)
 (SUB_CLASS, EQUIVALENT, DISJOINT, UNION, SUB_ROLE, CHAIN, SAME_ROLES, DISJOINT_ROLES, INVERSE_ROLES, DOMAIN, RANGE,
@@ -330,8 +331,7 @@ CASES = []
 
 
 def add(name, deck, lent, ask):
-    assert len(name) <= 40 and name.isascii() and ' ' not in name and name == name.lower(), name
-    assert all(name != other for other, *_ in CASES), name
+    check_name(name, CASES)
     data = deck if isinstance(deck, bytes) else deck.bytes()
     lines = printed(name, data, lent, ask)
     CASES.append((name, data, lent, ask, lines))
@@ -955,6 +955,13 @@ def random_deck(rng, tags=()):
     d = Made(n, [sorted({k} | set(rng.sample(range(r), rng.choice((0, 0, 1, min(2, r)))))) for k in range(r)])
     for k in range(n):
         d.classes[k][0] = int(rng.random() < 0.1)
+    add_terms(rng, d, (8, 18), CONCEPT_DRAWS, (8, 16), AXIOM_DRAWS, tags)
+    return d
+
+
+def add_terms(rng, d, concepts, concept_draws, axioms, axiom_draws, tags=()):
+    """Adds between so many and so many concepts and axioms to a deck, as these draws say, and axioms of these tags."""
+    n, r = len(d.classes), len(d.roles)
 
     def word():
         return 2 * rng.randrange(r) + int(rng.random() < inverse_often)
@@ -975,16 +982,15 @@ def random_deck(rng, tags=()):
 
     # Most words are named: one in twelve of a concept's, one in twenty of an axiom's is inverse.
     inverse_often = 1 / 12
-    for count in range(rng.randint(8, 18)):
-        tag = draw(rng, CONCEPT_DRAWS)
+    for count in range(rng.randint(*concepts)):
+        tag = draw(rng, concept_draws)
         while 'c' in CONCEPT_FORMS[tag] and not count:
-            tag = draw(rng, CONCEPT_DRAWS)
+            tag = draw(rng, concept_draws)
         d.concept(tag, *fields(CONCEPT_FORMS[tag], count, (0, 1, 2, 2, 2, 3)))
     count = len(d.concepts)
     inverse_often = 1 / 20
-    for tag in [draw(rng, AXIOM_DRAWS) for _ in range(rng.randint(8, 16))] + list(tags):
+    for tag in [draw(rng, axiom_draws) for _ in range(rng.randint(*axioms))] + list(tags):
         d.axiom(tag, *fields(AXIOM_FORMS[tag], count, (2, 2, 2, 2, 2, 0, 1, 3) if tag == CHAIN else (0, 1, 2, 2, 3)))
-    return d
 
 
 def random_lent(rng, d, most=5):
@@ -1087,10 +1093,10 @@ def runs(words):
 
 
 def encoded(name, deck, lent, ask):
-    padded = deck + b'\0' * (-len(deck) % 4)
+    whole = padded(deck)
     made = runs(lent.labels)
     return (numbers([len(name)]) + name.encode() +
-            numbers([len(deck), *struct.unpack('<%dI' % (len(padded) // 4), padded)]) +
+            numbers([len(deck), *struct.unpack('<%dI' % (len(whole) // 4), whole)]) +
             numbers([len(lent.labels), len(made)] + [part for run in made for part in run]) +
             numbers([lent.elements, len(lent.edges)] + [part for edge in lent.edges for part in edge]) +
             numbers([lent.edge_count, *ask]))
@@ -1108,17 +1114,10 @@ def main():
     given = b''.join(encoded(name, data, lent, ask) for name, data, lent, ask, _ in CASES)
     lines = [line for *_, found in CASES for line in found] + ['%d cases' % len(CASES)]
     wanted = ''.join(line + '\n' for line in lines).encode()
-    crate = pathlib.Path(__file__).resolve().parent.parent / 'crates' / 'test_eval'
-    files = ((crate / 'stdin', given), (crate / 'stdout', wanted))
-    if '--check' in sys.argv[1:]:
-        stale = [path.name for path, text in files if not path.exists() or path.read_bytes() != text]
-        print('stale: ' + ' '.join(stale) if stale else 'up to date')
-        sys.exit(1 if stale else 0)
-    for path, text in files:
-        path.write_bytes(text)
     pairs = sum(ask.concepts * ask.elements for _, _, _, ask, _ in CASES)
     axioms = sum(ask.axioms for _, _, _, ask, _ in CASES)
-    print('%d cases, %d judgements, %d verdicts, %d bytes of data' % (len(CASES), pairs, axioms, len(given)))
+    finish('test_eval', given, wanted, '%d cases, %d judgements, %d verdicts, %d bytes of data'
+           % (len(CASES), pairs, axioms, len(given)))
 
 
 if __name__ == '__main__':

@@ -5,13 +5,7 @@
 
 A change is made in the text, so each place must stand there once. Hand-made cases are not held to their answers here.
 """
-import pathlib
-import sys
-import types
-
-HERE = pathlib.Path(__file__).resolve().parent
-sys.path.insert(0, str(HERE))
-TEXT = (HERE / 'make_judgements.py').read_text()
+from mutations import report
 
 # Name, what stands in the text, what stands there instead.
 CHANGES = [
@@ -265,19 +259,8 @@ SILENT = [
 ]
 
 
-def lines(text):
-    """The expected lines of each case, by its name."""
-    module = types.ModuleType('changed')
-    module.__file__ = str(HERE / 'make_judgements.py')
-    exec(compile(text, 'changed', 'exec'), module.__dict__)
-    module.agree = lambda name, expected, found: None
-    module.make_cases()
-    return {name: found for name, *_, found in module.CASES}
-
-
-def changed(name, old, new):
-    assert TEXT.count(old) == 1, (name, TEXT.count(old))
-    text = TEXT.replace(old, new)
+def prepared(text, new):
+    """Own edges of each role, for the changes that use them."""
     if 'self.own' in new:
         text = text.replace("        self.pairs = []\n",
                             "        self.pairs = []\n"
@@ -286,26 +269,5 @@ def changed(name, old, new):
     return text
 
 
-def main():
-    wanted = lines(TEXT)
-    missed = []
-    for group, seen in ((CHANGES, True), (SILENT, False)):
-        for name, old, new in group:
-            try:
-                found = lines(changed(name, old, new))
-            except Exception as error:      # an evaluator that ends on a case is seen too
-                print('%-70s ends: %s' % (name, type(error).__name__))
-                missed += [] if seen else [name]
-                continue
-            cases = [case for case in wanted if wanted[case] != found[case]]
-            count = sum(a != b for case in cases for a, b in zip(wanted[case], found[case]))
-            made = [case for case in cases if not case.startswith(('random', 'full', 'damaged'))]
-            print('%-70s %4d lines in %3d cases, %3d hand-made' % (name, count, len(cases), len(made)))
-            if bool(cases) != seen:
-                missed.append(name)
-    print('%d changes, %d not as they should be: %s' % (len(CHANGES) + len(SILENT), len(missed), '; '.join(missed)))
-    sys.exit(1 if missed else 0)
-
-
 if __name__ == '__main__':
-    main()
+    report('make_judgements.py', CHANGES, SILENT, prepared)

@@ -233,3 +233,14 @@ pub trusted-as : (s : List ℕ) (B : Bounds) (last : ℕ) (labels : List ℕ) (e
 trusted-as s B last labels edges log verdicts {r} {labels′} {edges′} {log′} {verdicts′} e outcome t h =
     subst (λ (x : Ran). Trusted (deckOf s) (structureOf (deckOf s) (x .labels) (x .edges) (shapeIn t)) (x .verdicts) outcome) (sym e)
     (trusted s B last labels edges log verdicts outcome t (sym (ap (λ (x : Ran). x .answer) e) ∙ h))
+
+-- a run that is done has passed every test
+pub done-passed : (s : List ℕ) (B : Bounds) (last : ℕ) (labels : List ℕ) (edges : List (List ℕ)) (log verdicts : List ℕ) (outcome : Outcome) (t : Tally)
+    → run s B last labels edges log verdicts .answer ≡ RunAnswer.Done outcome t → Passed s B last (length labels) (length edges) (length verdicts)
+unfolding run
+done-passed s B last labels edges log verdicts outcome t = by (runRefusal s B last (length labels) (length edges) (length verdicts)) refl
+  where
+    by : (a : DeckAnswer) → runRefusal s B last (length labels) (length edges) (length verdicts) ≡ a
+        → unlessRefused a (accepted (deckOf s) B last labels edges log verdicts) labels edges log verdicts .answer ≡ RunAnswer.Done outcome t → Passed s B last (length labels) (length edges) (length verdicts)
+    by Accepted p h = passed s B last (length labels) (length edges) (length verdicts) p
+    by (Refused r) p h = clash (cc)

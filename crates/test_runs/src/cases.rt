@@ -1,0 +1,43 @@
+// The case at a place of the input (main.rt has its form). Places are counted in words.
+use model::bounds::Bounds;
+ghost use Prim.Native.Nat.{_≤_};
+
+// The largest place and the largest length that a case may have.
+pub const MOST: usize = 1000000;
+
+// What is asked of a run: its bounds, its last phase, and how much memory it is lent.
+pub struct Asked {
+    pub bounds: Bounds,
+    pub last_phase: u32,
+    pub labels: usize,
+    pub edges: usize,
+    pub log: usize,
+    pub verdicts: usize,
+}
+
+// Word `at` of `data`, or 0 past its end.
+pub fn word_or_0(data: &[u8], at: usize) -> u32 {
+    if at < data.len() / 4 {
+        deck::words::word(data, at)
+    } else {
+        0
+    }
+}
+
+// What the eight words from `at` on ask.
+pub fn asked_at(data: &[u8], at: usize) -> Asked
+    requires { ⌜ at ≤ 1000002 ⌝ }
+{
+    Asked {
+        bounds: Bounds {
+            max_elements: word_or_0(data, at),
+            max_edges: word_or_0(data, at + 1),
+            max_rounds: word_or_0(data, at + 2),
+        },
+        last_phase: word_or_0(data, at + 3),
+        labels: word_or_0(data, at + 4) as usize,
+        edges: word_or_0(data, at + 5) as usize,
+        log: word_or_0(data, at + 6) as usize,
+        verdicts: word_or_0(data, at + 7) as usize,
+    }
+}

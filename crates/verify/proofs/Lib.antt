@@ -1,0 +1,3 @@
+pub mod LineSpecimens
+pub mod DecimalLaws
+pub mod WriteLaws
