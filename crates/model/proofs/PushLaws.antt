@@ -18,7 +18,7 @@ use Rattle.eval.proofs.EdgeWalks.{edges-length}
 use Rattle.model.specs.declared.reasons.Reason.{Reason}
 use Rattle.model.specs.declared.tally.Tally.{Tally}
 use Rattle.model.specs.declared.tally.Step.{Step}
-use Rattle.model.specs.Reasons.{put, noted, counted, boundTripped}
+use Rattle.model.specs.Reasons.{logged, noted, counted, boundTripped}
 use Rattle.model.specs.Push.{State, added, pushEdge, reached, quiet, start, stored, answer, Room, Left}
 
 -- ---- lists
@@ -80,7 +80,7 @@ pub noted-length : (log : List ℕ) (total : ℕ) (r : Reason) → length (noted
 unfolding noted
 noted-length log total r = go (ltb total 4294967295 && ltb total (length log / 3))
   where
-    go : (b : Bool) → length (cond b (put log total r) log) ≡ length log
+    go : (b : Bool) → length (cond b (logged log total r) log) ≡ length log
     go true = simp length-set
     go false = refl
 

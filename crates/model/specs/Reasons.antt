@@ -23,12 +23,12 @@ abbrev pub axiomsDropped : ℕ → Reason
 axiomsDropped dropped = record { kind = 4; first = dropped; second = 0 }
 
 -- reason n of the log, in its three words
-abbrev pub put : List ℕ → ℕ → Reason → List ℕ
-put log n r = set (set (set log (n * 3) (r .kind)) (n * 3 + 1) (r .first)) (n * 3 + 2) (r .second)
+abbrev pub logged : List ℕ → ℕ → Reason → List ℕ
+logged log n r = set (set (set log (n * 3) (r .kind)) (n * 3 + 1) (r .first)) (n * 3 + 2) (r .second)
 
 -- "The log keeps the first that fit": its words after one more reason, where `total` were given
 unfoldable pub noted : List ℕ → ℕ → Reason → List ℕ
-noted log total r = cond (ltb total 4294967295 && ltb total (length log / 3)) (put log total r) log
+noted log total r = cond (ltb total 4294967295 && ltb total (length log / 3)) (logged log total r) log
 
 -- "the total stops at 4,294,967,295": the total after one more
 unfoldable pub counted : ℕ → ℕ

@@ -119,10 +119,7 @@ pub fn outcome(judged: Judged, reasons: u32) -> Outcome
     if fails {
         return Outcome::Failed;
     }
-    if 0 < reasons {
-        return Outcome::Open;
-    }
-    if unresolved {
+    if either(0 < reasons, unresolved) {
         return Outcome::Open;
     }
     Outcome::Confirmed

@@ -2,7 +2,7 @@
 ghost use mathlib.Core.Path.{_≡_};
 ghost use Prim.Native.Nat.{_+_, _*_, _/_, _<_};
 ghost use lib.ListN.{length};
-ghost use Rattle.model.specs.Reasons.{put, noted, counted};
+ghost use Rattle.model.specs.Reasons.{logged, noted, counted};
 
 // 1 LabelNotClosed, 2 RunDelta, 3 BoundTripped or 4 AxiomsDroppedAtConversion, and two words.
 pub struct Reason {
@@ -14,7 +14,7 @@ pub struct Reason {
 // Reason n of the log becomes r.
 fn store(log: &mut [u32], n: usize, r: Reason)
     requires { ⌜ n < length (now log) / 3 ⌝ }
-    ensures { λ _. ⌜ now (log .exit) ≡ put (now (log .entry)) n r ⌝ }
+    ensures { λ _. ⌜ now (log .exit) ≡ logged (now (log .entry)) n r ⌝ }
 {
     log[n * 3] = r.kind;
     log[n * 3 + 1] = r.first;
