@@ -20,6 +20,7 @@ use Rattle.model.specs.Label.{labelHas}
 use Rattle.model.specs.Rows.{rowAt}
 use Rattle.model.specs.Floor.{universal, requiredAtoms}
 use Rattle.model.specs.Rounds.{someIn, hasAtom, isRule, holdsAtoms}
+use Rattle.model.proofs.PushLaws.{map-append}
 use Rattle.model.proofs.LabelLaws.{row-word}
 use Rattle.model.proofs.FloorLaws.{fits-read, atoms-atomic, atoms-and, atoms-other}
 
@@ -29,10 +30,6 @@ unfolding every
 every-append [] ys = refl
 every-append (true ∷ xs) ys = every-append xs ys
 every-append (false ∷ xs) ys = refl
-
-map-append : {A B : Type 0} (f : A → B) (xs ys : List A) → map f (xs ++ ys) ≡ map f xs ++ map f ys
-map-append f [] ys = refl
-map-append f (x ∷ xs) ys = ap (λ (r : _). f x ∷ r) (map-append f xs ys)
 
 every-flat : {A B : Type 0} (p : B → Bool) (f : A → List B) (l : List A) → every (map p (flatMap f l)) ≡ every (map (λ x. every (map p (f x))) l)
 unfolding every flatMap

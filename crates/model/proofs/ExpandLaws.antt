@@ -4,7 +4,7 @@
 --     Turning                               the loop: the bound on the number of turns is never what ends it
 use Prim.Native.Nat.{ℕ, zero, suc, _+_, _*_, _-_, _/_, _<_, _≤_}
 use mathlib.Core.Path.{_≡_, refl, sym, ap, _∙_, subst}
-use mathlib.Core.Bool.{Bool, true, false, cond, _||_}
+use mathlib.Core.Bool.{Bool, true, false, cond, _||_, or-true, or-false}
 use mathlib.Core.List.{List, [], _∷_}
 use mathlib.Core.Logic.{⊎-elim}
 use native.Mathlib.Nat.{eq-or-lt-of-le, le-of-suc-le-suc}
@@ -86,14 +86,6 @@ module _ (D : Deck) (floor : List ℕ) (B : Bounds) (e : ℕ) where
 unfoldable pub untaken : List ℕ → ℕ → ℕ
 untaken taken zero = zero
 untaken taken (suc n) = cond (labelHas taken n) (untaken taken n) (suc (untaken taken n))
-
-or-false : (b : Bool) → (b || false) ≡ b
-or-false true = refl
-or-false false = refl
-
-or-true : (b : Bool) → (b || true) ≡ true
-or-true true = refl
-or-true false = refl
 
 has-other : (l : List ℕ) (k j : ℕ) → k / 64 < length l → (k ≡ j → ⊥) → labelHas (insertBit l k) j ≡ labelHas l j
 has-other l k j h n = has-insert l k j h ∙ rw (ne-eqb k j n) (or-false (labelHas l j))

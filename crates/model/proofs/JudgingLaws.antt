@@ -1,6 +1,6 @@
 -- Judging all axioms: the words stored so far, and what is still to come. Assumes nothing.
 use Prim.Native.Nat.{ℕ, suc, _+_, _*_, _<_, _≤_}
-use mathlib.Core.Bool.{Bool, true, false, _||_}
+use mathlib.Core.Bool.{Bool, true, false, _||_, or-false}
 use mathlib.Core.Path.{_≡_, refl, sym, ap, _∙_}
 use mathlib.Core.List.{List, [], _∷_, _++_, map, flatMap}
 use native.Mathlib.Omega.{arith}
@@ -18,6 +18,7 @@ use Rattle.model.specs.declared.judging.Judged.{Judged}
 use Rattle.model.specs.Rows.{put}
 use Rattle.model.specs.Outcome.{isFails, isUnresolved}
 use Rattle.model.specs.Run.{verdictsIn, wordsIn}
+use Rattle.model.proofs.MemberLaws.{or-assoc}
 use Rattle.model.proofs.PushLaws.{sets-append}
 
 -- what is put at the start is stored from the start on
@@ -40,14 +41,6 @@ stored-words was n w v p q = q ∙ ap (sets was n) (ap (λ (l : List ℕ). getD 
 
 pub length-words : (v : Verdict) → length (wordsOf v) ≡ 4
 length-words v = ap length (sym (four-words v))
-
-or-assoc : (a b c : Bool) → ((a || b) || c) ≡ (a || (b || c))
-or-assoc true b c = refl
-or-assoc false b c = refl
-
-or-false : (b : Bool) → (b || false) ≡ b
-or-false true = refl
-or-false false = refl
 
 module _ (D : Deck) (S : Structure) where
   pub length-all : (l : List Axiom) → length (wordsIn (map (verdict D S) l)) ≡ 4 * length l

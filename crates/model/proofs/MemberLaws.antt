@@ -1,7 +1,7 @@
 -- What a label has: exactly the classes that it took in, or those of either label that was joined.
 -- Assumes nothing.
 use mathlib.Core.Path.{_≡_, refl, sym, ap, _∙_}
-use mathlib.Core.Bool.{Bool, true, false, _||_}
+use mathlib.Core.Bool.{Bool, true, false, _||_, or-false}
 use mathlib.Core.List.{List, [], _∷_}
 use mathlib.Core.Logic.{⊎-elim}
 use Prim.Native.Nat.{ℕ, zero, suc, _/_, _%_, _^_, _<_, _≤_}
@@ -22,11 +22,7 @@ use Rattle.model.proofs.LabelLaws.{length-insert, length-join-to}
 by-cases : {C : Type 0} (a b : ℕ) → (a ≡ b → C) → ((a ≡ b → ⊥) → C) → C
 by-cases a b f g = ⊎-elim (λ (l : a < b). g (λ e. omega (arith, e, l))) (λ (h : b ≤ a). ⊎-elim (λ (e : b ≡ a). f (sym e)) (λ (l : b < a). g (λ e. omega (arith, e, l))) (eq-or-lt-of-le h)) (lt-or-le a b)
 
-or-false : (b : Bool) → (b || false) ≡ b
-or-false true = refl
-or-false false = refl
-
-or-assoc : (a b c : Bool) → ((a || b) || c) ≡ (a || (b || c))
+pub or-assoc : (a b c : Bool) → ((a || b) || c) ≡ (a || (b || c))
 or-assoc true b c = refl
 or-assoc false b c = refl
 

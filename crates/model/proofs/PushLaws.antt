@@ -22,7 +22,7 @@ use Rattle.model.specs.Reasons.{logged, noted, counted, boundTripped}
 use Rattle.model.specs.Push.{State, added, pushEdge, reached, quiet, start, stored, answer, Room, Left}
 
 -- ---- lists
-map-append : {A B : Type 0} (f : A → B) (xs ys : List A) → map f (xs ++ ys) ≡ map f xs ++ map f ys
+pub map-append : {A B : Type 0} (f : A → B) (xs ys : List A) → map f (xs ++ ys) ≡ map f xs ++ map f ys
 map-append f [] ys = refl
 map-append f (x ∷ xs) ys = ap (λ l. f x ∷ l) (map-append f xs ys)
 

@@ -4,7 +4,7 @@
 --     fire-yes, fire-no                 a rule at an element, as the code tests it
 --     pair-same, pair-differs           two members
 --     sub-class-fires, …, other-fires   an axiom that was read
---     Turning                           rounds, one after the other
+--     Rounding                           rounds, one after the other
 use Prim.Native.Nat.{ℕ, zero, suc, _+_, _-_, _*_, _<_, _≤_}
 use mathlib.Core.Bool.{Bool, true, false, cond, _||_, _&&_, or-true}
 use mathlib.Core.Path.{_≡_, refl, sym, ap, _∙_}
@@ -193,33 +193,33 @@ module _ (D : Deck) (floor : List ℕ) (B : Bounds) (m : Model) where
   not-ended w h = rw w (ne-eqb (length (round D floor B m .labels)) (length (m .labels)) h)
 
 -- the rounds have come so far that at most k may follow the next, and the buffers hold where they are
-pub record Turning (D : Deck) (floor : List ℕ) (B : Bounds) (k₀ : ℕ) (b : Buffers) (t : Tally) (k : ℕ) (b′ : Buffers) (l : List ℕ) (held : Tally) : Type 0 where
+pub record Rounding (D : Deck) (floor : List ℕ) (B : Bounds) (k₀ : ℕ) (b : Buffers) (t : Tally) (k : ℕ) (b′ : Buffers) (l : List ℕ) (held : Tally) : Type 0 where
   pub built : Built D B b t b′ l (quiet held) (begun D b′ held)
   pub goes : rounds D floor B k₀ (begun D b t) ≡ rounds D floor B k (begun D b′ held)
 
-pub turning-start : {s : List ℕ} {B : Bounds} {b : Buffers} {t : Tally} {floor label : List ℕ} → Prepared s B b t floor label → {k : ℕ} → k ≡ B .«max_rounds» - 1 → Turning (deckOf s) floor B (B .«max_rounds» - 1) b t k b label t
-turning-start {s} {B} {b} {t} {floor} P q = record { built = built-same P; goes = ap (λ j. rounds (deckOf s) floor B j (begun (deckOf s) b t)) (sym q) }
+pub rounding-start : {s : List ℕ} {B : Bounds} {b : Buffers} {t : Tally} {floor label : List ℕ} → Prepared s B b t floor label → {k : ℕ} → k ≡ B .«max_rounds» - 1 → Rounding (deckOf s) floor B (B .«max_rounds» - 1) b t k b label t
+rounding-start {s} {B} {b} {t} {floor} P q = record { built = built-same P; goes = ap (λ j. rounds (deckOf s) floor B j (begun (deckOf s) b t)) (sym q) }
 
-module _ {D : Deck} {floor : List ℕ} {B : Bounds} {k₀ : ℕ} {b : Buffers} {t : Tally} {k : ℕ} {b₁ : Buffers} {l₁ : List ℕ} {held : Tally} (G : Turning D floor B k₀ b t k b₁ l₁ held) {b₂ : Buffers} {l₂ : List ℕ} {r : Step}
+module _ {D : Deck} {floor : List ℕ} {B : Bounds} {k₀ : ℕ} {b : Buffers} {t : Tally} {k : ℕ} {b₁ : Buffers} {l₁ : List ℕ} {held : Tally} (G : Rounding D floor B k₀ b t k b₁ l₁ held) {b₂ : Buffers} {l₂ : List ℕ} {r : Step}
     (X : Built D B b₁ held b₂ l₂ r (round D floor B (begun D b₁ held))) where
   both : Built D B b t b₂ l₂ r (round D floor B (begun D b₁ held))
   both = built-trans (G .built) X
 
-  pub turning-trip : r .tripped ≡ true → Built D B b t b₂ l₂ r (rounds D floor B k₀ (begun D b t))
-  turning-trip w = built-is both (sym (G .goes ∙ ends-it D floor B _ (ended-trip D floor B _ (built-tripped X ∙ w)) k))
+  pub rounding-trip : r .tripped ≡ true → Built D B b t b₂ l₂ r (rounds D floor B k₀ (begun D b t))
+  rounding-trip w = built-is both (sym (G .goes ∙ ends-it D floor B _ (ended-trip D floor B _ (built-tripped X ∙ w)) k))
 
   counts : length (begun D b₁ held .labels) ≡ held .elements
   counts = length-rows (labelWidth D) (held .elements) (b₁ .labels)
 
-  pub turning-still : r .tally .elements ≡ held .elements → Built D B b t b₂ l₂ r (rounds D floor B k₀ (begun D b t))
-  turning-still w = built-is both (sym (G .goes ∙ ends-it D floor B _ (ended-still D floor B _ (built-count X ∙ w ∙ sym counts)) k))
+  pub rounding-still : r .tally .elements ≡ held .elements → Built D B b t b₂ l₂ r (rounds D floor B k₀ (begun D b t))
+  rounding-still w = built-is both (sym (G .goes ∙ ends-it D floor B _ (ended-still D floor B _ (built-count X ∙ w ∙ sym counts)) k))
 
   module _ (w : r .tripped ≡ false) (h : r .tally .elements ≡ held .elements → ⊥) where
     unended : ended D floor B (begun D b₁ held) ≡ false
     unended = not-ended D floor B _ (built-tripped X ∙ w) (λ q. h (sym (built-count X) ∙ q ∙ counts))
 
-    pub turning-more : (k ≡ 0 → ⊥) → Turning D floor B k₀ b t (k - 1) b₂ l₂ (r .tally)
-    turning-more z = record { built = built-quiet both w; goes = G .goes ∙ goes-on D floor B _ unended k z ∙ ap (rounds D floor B (k - 1)) (sym (built-start X w)) }
+    pub rounding-more : (k ≡ 0 → ⊥) → Rounding D floor B k₀ b t (k - 1) b₂ l₂ (r .tally)
+    rounding-more z = record { built = built-quiet both w; goes = G .goes ∙ goes-on D floor B _ unended k z ∙ ap (rounds D floor B (k - 1)) (sym (built-start X w)) }
 
-    pub turning-last : k ≡ 0 → {b₃ : Buffers} {r₃ : Step} → Built D B b₂ (r .tally) b₃ l₂ r₃ (tripIn (boundTripped 2 (B .«max_rounds»)) (begun D b₂ (r .tally))) → Built D B b t b₃ l₂ r₃ (rounds D floor B k₀ (begun D b t))
-    turning-last z Y = built-is (built-trans (built-quiet both w) Y) (ap (tripIn (boundTripped 2 (B .«max_rounds»))) (built-start X w) ∙ sym (G .goes ∙ is-last D floor B _ unended k z))
+    pub rounding-last : k ≡ 0 → {b₃ : Buffers} {r₃ : Step} → Built D B b₂ (r .tally) b₃ l₂ r₃ (tripIn (boundTripped 2 (B .«max_rounds»)) (begun D b₂ (r .tally))) → Built D B b t b₃ l₂ r₃ (rounds D floor B k₀ (begun D b t))
+    rounding-last z Y = built-is (built-trans (built-quiet both w) Y) (ap (tripIn (boundTripped 2 (B .«max_rounds»))) (built-start X w) ∙ sym (G .goes ∙ is-last D floor B _ unended k z))

@@ -5,12 +5,12 @@ use Rattle.deck.specs.Content.{deckOf}
 use Rattle.model.specs.Model.{lent}
 use Rattle.model.specs.Rounds.{expandFromAxioms}
 use Rattle.model.proofs.BuildLaws.{built-trans, built-trip, prepared-after}
-use Rattle.model.proofs.RoundLaws.{labels-size, Turning, turning-start, turning-trip, turning-still, turning-last, turning-more}
+use Rattle.model.proofs.RoundLaws.{labels-size, Rounding, rounding-start, rounding-trip, rounding-still, rounding-last, rounding-more}
 use Rattle.model.proofs.rounds.expand_from_axioms.Statement.{statement}
 use Rattle.model.proofs.rounds.expand_from_axioms.Tie as tie
 
 abbrev Inv-loop : tie.InvT-loop
-Inv-loop deck bounds floor label₀ labels₀ edges₀ log₀ left₀ held₀ label labels edges log left held = Turning (deckOf deck) floor bounds (bounds .«max_rounds» - 1) (lent labels₀ edges₀ log₀) held₀ left (lent labels edges log) label held
+Inv-loop deck bounds floor label₀ labels₀ edges₀ log₀ left₀ held₀ label labels edges log left held = Rounding (deckOf deck) floor bounds (bounds .«max_rounds» - 1) (lent labels₀ edges₀ log₀) held₀ left (lent labels edges log) label held
 
 abbrev μ-loop : tie.MeasureT-loop
 μ-loop deck bounds floor label₀ labels₀ edges₀ log₀ left₀ held₀ label labels edges log left held = left
@@ -19,7 +19,7 @@ later-rounds-requires : tie.Need-later-rounds-requires Inv-loop μ-loop
 later-rounds-requires c κs = tt
 
 loop-holds : tie.Need-loop-holds Inv-loop μ-loop
-loop-holds c = turning-start (c .before .before .before .before .before .before .pre) (c .later-rounds .ensures)
+loop-holds c = rounding-start (c .before .before .before .before .before .before .pre) (c .later-rounds .ensures)
 
 round-requires : tie.Need-round-requires Inv-loop μ-loop
 round-requires c κs = prepared-after (c .before .before .before .before .before .before .before .before .before .before .before .pre) (c .before .before .before .before .loop .inv .built) refl
@@ -38,7 +38,7 @@ same-length-4 c = c .before .before .before .before .before .before .before .bef
 
 returns : tie.Need-returns Inv-loop μ-loop
 unfolding expandFromAxioms
-returns c = turning-trip (c .before .before .before .before .before .before .before .before .before .before .before .before .before .loop .inv) (c .before .before .before .before .before .before .before .before .round .ensures) (c .if1 .taken)
+returns c = rounding-trip (c .before .before .before .before .before .before .before .before .before .before .before .before .before .loop .inv) (c .before .before .before .before .before .before .before .before .round .ensures) (c .if1 .taken)
 
 same-length-5 : tie.Need-same-length-5 Inv-loop μ-loop
 same-length-5 c = c .before .before .before .before .before .before .before .before .before .before .before .before .round .ensures .wide ∙ sym (c .before .before .before .before .before .before .before .before .before .before .before .before .before .before .before .before .before .before .before .before .before .before .before .before .pre .label-wide)
@@ -54,7 +54,7 @@ same-length-8 c = c .before .before .before .before .before .before .before .bef
 
 returns-2 : tie.Need-returns-2 Inv-loop μ-loop
 unfolding expandFromAxioms
-returns-2 c = turning-still (c .before .before .before .before .before .before .before .before .before .before .before .before .before .before .before .before .before .loop .inv) (c .before .before .before .before .before .before .before .before .before .before .before .before .round .ensures) (c .if2 .taken)
+returns-2 c = rounding-still (c .before .before .before .before .before .before .before .before .before .before .before .before .before .before .before .before .before .loop .inv) (c .before .before .before .before .before .before .before .before .before .before .before .before .round .ensures) (c .if2 .taken)
 
 trip-rounds-requires : tie.Need-trip-rounds-requires Inv-loop μ-loop
 trip-rounds-requires c κs = tt
@@ -77,7 +77,7 @@ returns-3 c =
     let G = c .before .before .before .before .before .before .before .before .before .before .before .before .before .before .before .before .before .before .before .before .before .before .loop .inv in
     let X = c .before .before .before .before .before .before .before .before .before .before .before .before .before .before .before .before .before .round .ensures in
     let P = prepared-after (prepared-after (c .before .before .before .before .before .before .before .before .before .before .before .before .before .before .before .before .before .before .before .before .before .before .before .before .before .before .before .before .before .pre) (G .built) refl) X (c .before .before .before .before .before .before .before .before .before .if1 .left) in
-    turning-last G X (c .before .before .before .before .before .before .before .before .before .if1 .left) (c .before .before .before .before .before .if2 .left) (c .before .before .before .before .if3 .taken) (built-trip P _ (c .before .before .trip-rounds .ensures .0) (c .before .before .trip-rounds .ensures .1))
+    rounding-last G X (c .before .before .before .before .before .before .before .before .before .if1 .left) (c .before .before .before .before .before .if2 .left) (c .before .before .before .before .if3 .taken) (built-trip P _ (c .before .before .trip-rounds .ensures .0) (c .before .before .trip-rounds .ensures .1))
 
 sub-left : tie.Need-sub-left Inv-loop μ-loop
 sub-left c = omega (arith, c .if3 .left)
@@ -86,7 +86,7 @@ loop-less : tie.Need-loop-less Inv-loop μ-loop
 loop-less c = omega (arith, c .if3 .left)
 
 loop-again : tie.Need-loop-again Inv-loop μ-loop
-loop-again c = turning-more (c .before .before .before .before .before .before .before .before .before .before .before .before .before .before .before .before .before .before .loop .inv) (c .before .before .before .before .before .before .before .before .before .before .before .before .before .round .ensures) (c .before .before .before .before .before .if1 .left) (c .before .if2 .left) (c .if3 .left)
+loop-again c = rounding-more (c .before .before .before .before .before .before .before .before .before .before .before .before .before .before .before .before .before .before .loop .inv) (c .before .before .before .before .before .before .before .before .before .before .before .before .before .round .ensures) (c .before .before .before .before .before .if1 .left) (c .before .if2 .left) (c .if3 .left)
 
 pub expand-from-axioms-spec : {M : Type 1} → statement M
 expand-from-axioms-spec =
