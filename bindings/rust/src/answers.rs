@@ -1,0 +1,240 @@
+//! Answers, read off the words of document 01.
+use crate::numbers::{ClassId, Element, RoleId};
+use std::error::Error;
+use std::fmt;
+
+/// Why a deck, a run or a question is refused. The numbers are document 01's.
+#[derive(Clone, Copy, Debug, PartialEq, Eq, PartialOrd, Ord, Hash)]
+#[repr(u32)]
+pub enum Refusal {
+    TooShort = 1,
+    UnknownEdition = 2,
+    CountOverLimit = 3,
+    BadLayout = 4,
+    BadField = 5,
+    BadOrder = 6,
+    ForwardOperand = 7,
+    BadBounds = 8,
+    ShortBuffer = 9,
+    ForeignStructure = 10,
+    AbsentIndex = 11,
+}
+
+impl Refusal {
+    pub const ALL: [Refusal; 11] = [
+        Refusal::TooShort,
+        Refusal::UnknownEdition,
+        Refusal::CountOverLimit,
+        Refusal::BadLayout,
+        Refusal::BadField,
+        Refusal::BadOrder,
+        Refusal::ForwardOperand,
+        Refusal::BadBounds,
+        Refusal::ShortBuffer,
+        Refusal::ForeignStructure,
+        Refusal::AbsentIndex,
+    ];
+
+    pub fn number(self) -> u32 {
+        self as u32
+    }
+
+    pub(crate) fn unless_zero(number: u32) -> Result<(), Refusal> {
+        match number {
+            0 => Ok(()),
+            n => Err(*Refusal::ALL.get(n as usize - 1).unwrap_or_else(|| {
+                unreachable!("the library is proved to return 0 to 11, not {n}")
+            })),
+        }
+    }
+
+    fn given_when(self) -> &'static str {
+        match self {
+            Refusal::TooShort => "bytes not a multiple of 4, or under 72",
+            Refusal::UnknownEdition => "edition is not 1",
+            Refusal::CountOverLimit => "a count above its limit",
+            Refusal::BadLayout => "a start, body count or M does not fit",
+            Refusal::BadField => {
+                "unknown tag or flag, number or list out of range, unused field filled"
+            }
+            Refusal::BadOrder => "order broken, or own number absent from a row",
+            Refusal::ForwardOperand => "operand not below its concept",
+            Refusal::BadBounds => "a bound above its limit",
+            Refusal::ShortBuffer => "label, edge or verdict buffer below need",
+            Refusal::ForeignStructure => "a structure that does not fit the deck",
+            Refusal::AbsentIndex => "axiom, concept or element index past its count",
+        }
+    }
+}
+
+impl fmt::Display for Refusal {
+    fn fmt(&self, f: &mut fmt::Formatter<'_>) -> fmt::Result {
+        write!(f, "refused {}: {}", self.number(), self.given_when())
+    }
+}
+
+impl Error for Refusal {}
+
+/// What a run comes to.
+#[derive(Clone, Copy, Debug, PartialEq, Eq, Hash)]
+pub enum Outcome {
+    /// Every axiom is true in the structure that was built.
+    Confirmed,
+    /// An axiom is false there.
+    Failed,
+    /// None is known to be false, but a verdict is unresolved or a reason was given.
+    Open,
+}
+
+impl Outcome {
+    pub(crate) fn of_word(word: u32) -> Outcome {
+        match word {
+            0 => Outcome::Confirmed,
+            1 => Outcome::Failed,
+            2 => Outcome::Open,
+            n => unreachable!("the library is proved to answer 0 to 2, not {n}"),
+        }
+    }
+}
+
+impl fmt::Display for Outcome {
+    fn fmt(&self, f: &mut fmt::Formatter<'_>) -> fmt::Result {
+        f.write_str(match self {
+            Outcome::Confirmed => "confirmed",
+            Outcome::Failed => "failed",
+            Outcome::Open => "open",
+        })
+    }
+}
+
+/// What a concept is at an element.
+#[derive(Clone, Copy, Debug, PartialEq, Eq, Hash)]
+pub enum Judgement {
+    False,
+    True,
+    /// It turns on a construct with this tag, which is not judged.
+    Unresolved(u32),
+}
+
+impl Judgement {
+    pub(crate) fn of_words(words: [u32; 4]) -> Judgement {
+        match words[0] {
+            0 => Judgement::False,
+            1 => Judgement::True,
+            2 => Judgement::Unresolved(words[1]),
+            n => unreachable!("the library is proved to answer 0 to 2, not {n}"),
+        }
+    }
+}
+
+/// Why an axiom is not judged.
+#[derive(Clone, Copy, Debug, PartialEq, Eq, Hash)]
+pub enum Unhandled {
+    /// Axioms of its tag are not judged.
+    Variety,
+    /// It names an inverse role.
+    InverseRole,
+    /// Its chain has not two links.
+    ChainLength,
+}
+
+impl Unhandled {
+    fn of_word(word: u32) -> Unhandled {
+        match word {
+            0 => Unhandled::Variety,
+            1 => Unhandled::InverseRole,
+            2 => Unhandled::ChainLength,
+            n => unreachable!("the library is proved to answer 0 to 2, not {n}"),
+        }
+    }
+}
+
+/// What an axiom is in a structure.
+#[derive(Clone, Debug, PartialEq, Eq, Hash)]
+pub enum Verdict {
+    Holds,
+    /// False at these elements, one to three.
+    Fails(Vec<Element>),
+    UnhandledAxiom {
+        tag: u32,
+        why: Unhandled,
+    },
+    UnhandledConcept {
+        tag: u32,
+    },
+    GuardedRoleHasEdges(RoleId),
+}
+
+const NO_WITNESS: u32 = u32::MAX;
+
+impl Verdict {
+    /// Of a verdict's four words.
+    pub(crate) fn of_words(words: &[u32]) -> Verdict {
+        match words[0] {
+            0 => Verdict::Holds,
+            1 => Verdict::Fails(
+                words[1..4]
+                    .iter()
+                    .filter(|&&w| w != NO_WITNESS)
+                    .map(|&w| Element(w))
+                    .collect(),
+            ),
+            2 => Verdict::UnhandledAxiom {
+                tag: words[1],
+                why: Unhandled::of_word(words[2]),
+            },
+            3 => Verdict::UnhandledConcept { tag: words[1] },
+            4 => Verdict::GuardedRoleHasEdges(RoleId(words[1])),
+            n => unreachable!("the library is proved to answer 0 to 4, not {n}"),
+        }
+    }
+}
+
+/// As the program `verify` prints it, after the axiom's number.
+impl fmt::Display for Verdict {
+    fn fmt(&self, f: &mut fmt::Formatter<'_>) -> fmt::Result {
+        match self {
+            Verdict::Holds => f.write_str("holds"),
+            Verdict::Fails(witnesses) => {
+                f.write_str("fails")?;
+                witnesses.iter().try_for_each(|w| write!(f, " {}", w.0))
+            }
+            Verdict::UnhandledAxiom { tag, why } => write!(f, "open 2 {tag} {}", *why as u32),
+            Verdict::UnhandledConcept { tag } => write!(f, "open 3 {tag} 0"),
+            Verdict::GuardedRoleHasEdges(role) => write!(f, "open 4 {} 0", role.0),
+        }
+    }
+}
+
+/// Why building may have left something out.
+#[derive(Clone, Copy, Debug, PartialEq, Eq, Hash)]
+pub enum Reason {
+    LabelNotClosed(ClassId, RoleId),
+    RunDelta(ClassId),
+    ElementsTripped { limit: u32 },
+    EdgesTripped { limit: u32 },
+    RoundsTripped { limit: u32 },
+    AxiomsDropped(u32),
+}
+
+impl Reason {
+    fn of_words(words: &[u32]) -> Reason {
+        match (words[0], words[1], words[2]) {
+            (1, class, role) => Reason::LabelNotClosed(ClassId(class), RoleId(role)),
+            (2, class, _) => Reason::RunDelta(ClassId(class)),
+            (3, 0, limit) => Reason::ElementsTripped { limit },
+            (3, 1, limit) => Reason::EdgesTripped { limit },
+            (3, 2, limit) => Reason::RoundsTripped { limit },
+            (4, dropped, _) => Reason::AxiomsDropped(dropped),
+            words => unreachable!("{words:?} is no reason of document 01"),
+        }
+    }
+}
+
+/// Those of `total` reasons that the log has kept.
+pub(crate) fn reasons_of(log: &[u32], total: u32) -> Vec<Reason> {
+    log.chunks_exact(3)
+        .take(total as usize)
+        .map(Reason::of_words)
+        .collect()
+}
