@@ -1,6 +1,6 @@
 #!/usr/bin/env python3
-"""Times the program verify on deck W and on decks of the size that it takes at most: seconds, the best of five, and
-the stack that it needs, which is all its memory but the program's text. Run it from the repository's top after `rt check verify`.
+"""Times the program verify on deck W and on decks of the size that it takes at most: seconds, the best of five,
+peak memory, and the stack that it needs. Run it from the repository's top after `rt check verify`.
 
     python3 tests/bench/verify.py
 """
@@ -65,8 +65,16 @@ def widest():
     return d.with_axiom(SUB_CLASS, 0, 1)
 
 
+def peak(path):
+    """The most memory that the program held, in KB."""
+    with open(path, 'rb') as source:
+        ran = subprocess.run(['/usr/bin/time', '-f', '%M', PROGRAM], stdin=source, stdout=subprocess.DEVNULL,
+                             stderr=subprocess.PIPE)
+    return int(ran.stderr.split()[-1])
+
+
 def stack_need(path):
-    """The smallest stack, in KB, in which the program ends as it does in a large one: it has no other memory to speak of."""
+    """The smallest stack, in KB, in which the program ends well."""
     def ends(limit):
         with open(path, 'rb') as source:
             return subprocess.run(['sh', '-c', 'ulimit -s %d && exec %s' % (limit, PROGRAM)], stdin=source,
@@ -93,8 +101,8 @@ def measure(name, deck):
                 took = time.perf_counter() - began
             best = took if best is None else min(best, took)
             first = out.split(b'\n')[0].decode()
-        peak = stack_need(file.name)
-        print('%-16s %6d bytes  %9.4f s  %6d KB of stack  %s' % (name, len(data), best, peak, first))
+        print('%-16s %6d bytes  %9.4f s  %5d KB in all  %5d KB of stack  %s'
+              % (name, len(data), best, peak(file.name), stack_need(file.name), first))
 
 
 measure('deck W', deck_w())
