@@ -1,8 +1,9 @@
 -- `work` by the form of its concept, and what a step of the code leaves by it.
 --     work-stuck                                                    after a trip nothing
 --     and-leaves, inverse-leaves, some-stops, some-goes, other-leaves   a concept that was read
+--     Descending                                                    the loop that goes down Somes
 --     body-ready, body-leaves                                       the target of a Some
-use Prim.Native.Nat.{ℕ, _<_}
+use Prim.Native.Nat.{ℕ, _<_, _≤_}
 use mathlib.Core.Bool.{true, false}
 use mathlib.Core.Path.{_≡_, refl, sym, ap, _∙_}
 use mathlib.Core.List.{List, [], _∷_}
@@ -112,12 +113,28 @@ module _ (s : List ℕ) (A : IsAccepted s) (c : ℕ) {expr : ConceptExpr} (R : C
         pub some-stops : z .tripped ≡ true → Built D B b t b₁ l₁ z (work D floor B c e M)
         some-stops u = built-is X (sym (work-stuck D floor B (k .0) _ _ (built-tripped X ∙ u)) ∙ some-is)
 
-        pub some-goes : z .tripped ≡ false → {to : ℕ} → to ≡ indexOf (M .labels) (bodyLabel D floor B (r .0) (k .0) M) → {b₂ : Buffers} {l₂ : List ℕ} {y : Step}
-            → Built D B b₁ (z .tally) b₂ l₂ y (work D floor B (k .0) to (begun D b₁ (z .tally))) → Built D B b t b₂ l₂ y (work D floor B c e M)
-        some-goes u {to} g Y =
-            built-is (built-trans (built-quiet X u) Y)
+        pub some-goes : z .tripped ≡ false → {to : ℕ} → to ≡ indexOf (M .labels) (bodyLabel D floor B (r .0) (k .0) M) → work D floor B c e M ≡ work D floor B (k .0) to (begun D b₁ (z .tally))
+        some-goes u g =
+            sym
             (ap (λ (x : ℕ). work D floor B (k .0) x (begun D b₁ (z .tally))) g ∙ ap (work D floor B (k .0) (indexOf (M .labels) (bodyLabel D floor B (r .0) (k .0) M))) (built-start X u)
             ∙ some-is)
+
+-- ---- a loop down Somes: from concept c at element e it has come to concept c₁ at e₁, and the buffers hold where it is
+pub record Descending (D : Deck) (floor : List ℕ) (B : Bounds) (b : Buffers) (t : Tally) (c e : ℕ) (b₁ : Buffers) (l₁ : List ℕ) (held : Tally) (c₁ e₁ : ℕ) : Type 0 where
+  pub built : Built D B b t b₁ l₁ (quiet held) (begun D b₁ held)
+  pub goes : work D floor B c e (begun D b t) ≡ work D floor B c₁ e₁ (begun D b₁ held)
+  pub down : c₁ ≤ c
+
+pub descending-start : {s : List ℕ} {B : Bounds} {b : Buffers} {t : Tally} {floor label : List ℕ} → Prepared s B b t floor label → (c e : ℕ) → Descending (deckOf s) floor B b t c e b label t c e
+descending-start P c e = record { built = built-same P; goes = refl; down = omega arith }
+
+module _ {D : Deck} {floor : List ℕ} {B : Bounds} {b : Buffers} {t : Tally} {c e : ℕ} {b₁ : Buffers} {l₁ : List ℕ} {held : Tally} {c₁ e₁ : ℕ} (G : Descending D floor B b t c e b₁ l₁ held c₁ e₁) {b₂ : Buffers} {l₂ : List ℕ} {z : Step} where
+  pub descending-next : {m : Model} → Built D B b₁ held b₂ l₂ z m → z .tripped ≡ false → {k to : ℕ} → k < c₁ → work D floor B c₁ e₁ (begun D b₁ held) ≡ work D floor B k to (begun D b₂ (z .tally))
+      → Descending D floor B b t c e b₂ l₂ (z .tally) k to
+  descending-next X u h q = record { built = built-quiet (built-trans (G .built) X) u; goes = G .goes ∙ q; down = omega (arith, h, G .down) }
+
+  pub descending-ends : Built D B b₁ held b₂ l₂ z (work D floor B c₁ e₁ (begun D b₁ held)) → Built D B b t b₂ l₂ z (work D floor B c e (begun D b t))
+  descending-ends X = built-is (built-trans (G .built) X) (sym (G .goes))
 
 -- ---- the target of a Some: the label l and the log g are those of its body, n the total of reasons
 module _ {s : List ℕ} {B : Bounds} {b : Buffers} {t : Tally} {floor label : List ℕ} (P : Prepared s B b t floor label) (r k : ℕ) {l g : List ℕ} {n : ℕ} (J : Joined l g n (bodyOf (deckOf s) r k (b .log) (t .reasons)))

@@ -66,7 +66,7 @@ fn reach_body(
     )
 }
 
-// Every Some of the concept that an And or a Some leads to, from element e on.
+// Every Some of the concept that an And or a Some leads to, from element e on. A turn goes down a Some, so only an And takes stack.
 pub fn materialise_exists(
     deck: &[u8],
     bounds: Bounds,
@@ -84,41 +84,40 @@ pub fn materialise_exists(
     ensures { λ r. ⌜ Built (deckOf (now (deck .entry))) bounds (lent (now (labels .entry)) (now (edges .entry)) (now (log .entry))) t (lent (now (labels .exit)) (now (edges .exit)) (now (log .exit))) (now (label .exit)) r
         (spec.work (deckOf (now (deck .entry))) (now (floor .entry)) bounds (concept .0) (e .0) (begun (deckOf (now (deck .entry))) (lent (now (labels .entry)) (now (edges .entry)) (now (log .entry))) t)) ⌝ }
 {
-    let none = Step {
-        tally: t,
-        tripped: false,
-    };
-    let expr = concept_at(deck, concept);
-    match expr {
-        ConceptExpr::And(list) => materialise_all(
-            deck,
-            bounds,
-            floor,
-            label,
-            labels,
-            edges,
-            log,
-            t,
-            concept,
-            list,
-            e,
-        ),
-        ConceptExpr::Some(w, b) => {
-            if w.is_inverse() {
-                return none;
+    let mut t = t;
+    let mut c = concept;
+    let mut e = e;
+    loop {
+        let expr = concept_at(deck, c);
+        match expr {
+            ConceptExpr::And(l) => {
+                return materialise_all(deck, bounds, floor, label, labels, edges, log, t, c, l, e);
             }
-            let r = w.role_id();
-            let a = reach_body(deck, bounds, floor, label, labels, edges, log, t, r, b, e);
-            let s = a.step;
-            let tripped = s.tripped;
-            if tripped {
-                return s;
+            ConceptExpr::Some(w, b) => {
+                if w.is_inverse() {
+                    return Step {
+                        tally: t,
+                        tripped: false,
+                    };
+                }
+                let r = w.role_id();
+                let a = reach_body(deck, bounds, floor, label, labels, edges, log, t, r, b, e);
+                let s = a.step;
+                let tripped = s.tripped;
+                if tripped {
+                    return s;
+                }
+                t = s.tally;
+                e = a.element;
+                c = b;
             }
-            let held = s.tally;
-            let to = a.element;
-            materialise_exists(deck, bounds, floor, label, labels, edges, log, held, b, to)
+            _ => {
+                return Step {
+                    tally: t,
+                    tripped: false,
+                };
+            }
         }
-        _ => none,
     }
 }
 

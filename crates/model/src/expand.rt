@@ -52,17 +52,17 @@ fn link_row(
     edges: &mut [[u32; 3]],
     log: &mut [u32],
     t: Tally,
-    role: RoleId,
+    r: RoleId,
     e: Element,
-    class: ClassId,
+    k: ClassId,
 ) -> Step
     requires { ⌜ Prepared (now deck) bounds (lent (now labels) (now edges) (now log)) t (now floor) (now label) ⌝ }
-    requires { ⌜ class .0 < classCount (deckOf (now deck)) ⌝ }
-    ensures { λ r. ⌜ Built (deckOf (now (deck .entry))) bounds (lent (now (labels .entry)) (now (edges .entry)) (now (log .entry))) t (lent (now (labels .exit)) (now (edges .exit)) (now (log .exit))) (now (label .exit)) r
-        (building.reach bounds (role .0) (e .0) (rowLabel (deckOf (now (deck .entry))) (now (floor .entry)) (class .0)) (begun (deckOf (now (deck .entry))) (lent (now (labels .entry)) (now (edges .entry)) (now (log .entry))) t)) ⌝ }
+    requires { ⌜ k .0 < classCount (deckOf (now deck)) ⌝ }
+    ensures { λ s. ⌜ Built (deckOf (now (deck .entry))) bounds (lent (now (labels .entry)) (now (edges .entry)) (now (log .entry))) t (lent (now (labels .exit)) (now (edges .exit)) (now (log .exit))) (now (label .exit)) s
+        (building.reach bounds (r .0) (e .0) (rowLabel (deckOf (now (deck .entry))) (now (floor .entry)) (k .0)) (begun (deckOf (now (deck .entry))) (lent (now (labels .entry)) (now (edges .entry)) (now (log .entry))) t)) ⌝ }
 {
-    load_row(deck, class, label);
-    let arrival = reach(deck, bounds, floor, label, labels, edges, log, t, role, e);
+    load_row(deck, k, label);
+    let arrival = reach(deck, bounds, floor, label, labels, edges, log, t, r, e);
     arrival.step
 }
 
@@ -78,64 +78,34 @@ fn link_target(
     t: Tally,
     e: Element,
     y: ClassId,
-    role: RoleId,
+    r: RoleId,
     target: Target,
 ) -> Step
     requires { ⌜ Prepared (now deck) bounds (lent (now labels) (now edges) (now log)) t (now floor) (now label) ⌝ }
     requires { ⌜ TargetFits (deckOf (now deck)) target ⌝ }
-    ensures { λ r. ⌜ Built (deckOf (now (deck .entry))) bounds (lent (now (labels .entry)) (now (edges .entry)) (now (log .entry))) t (lent (now (labels .exit)) (now (edges .exit)) (now (log .exit))) (now (label .exit)) r
-        (spec.linkTarget (deckOf (now (deck .entry))) (now (floor .entry)) bounds (e .0) (y .0) (role .0) target (begun (deckOf (now (deck .entry))) (lent (now (labels .entry)) (now (edges .entry)) (now (log .entry))) t)) ⌝ }
+    ensures { λ s. ⌜ Built (deckOf (now (deck .entry))) bounds (lent (now (labels .entry)) (now (edges .entry)) (now (log .entry))) t (lent (now (labels .exit)) (now (edges .exit)) (now (log .exit))) (now (label .exit)) s
+        (spec.linkTarget (deckOf (now (deck .entry))) (now (floor .entry)) bounds (e .0) (y .0) (r .0) target (begun (deckOf (now (deck .entry))) (lent (now (labels .entry)) (now (edges .entry)) (now (log .entry))) t)) ⌝ }
 {
     match target {
-        Target::Row(class) => link_row(
-            deck,
-            bounds,
-            floor,
-            label,
-            labels,
-            edges,
-            log,
-            t,
-            role,
-            e,
-            class,
-        ),
-        Target::Delta(class) => {
-            let held = note(
-                log,
-                t,
-                Reason {
-                    kind: 2,
-                    first: y.0,
-                    second: 0,
-                },
-            );
-            link_row(
-                deck,
-                bounds,
-                floor,
-                label,
-                labels,
-                edges,
-                log,
-                held,
-                role,
-                e,
-                class,
-            )
+        Target::Row(k) => link_row(deck, bounds, floor, label, labels, edges, log, t, r, e, k),
+        Target::Delta(k) => {
+            let reason = Reason {
+                kind: 2,
+                first: y.0,
+                second: 0,
+            };
+            let u = note(log, t, reason);
+            link_row(deck, bounds, floor, label, labels, edges, log, u, r, e, k)
         }
         Target::NotClosed => {
-            let held = note(
-                log,
-                t,
-                Reason {
-                    kind: 1,
-                    first: y.0,
-                    second: role.0,
-                },
-            );
+            let reason = Reason {
+                kind: 1,
+                first: y.0,
+                second: r.0,
+            };
+            let u = note(log, t, reason);
             Step {
-                tally: held,
+                tally: u,
                 tripped: false,
             }
         }

@@ -12,7 +12,7 @@ use Rattle.model.specs.Exists.{work}
 use Rattle.model.proofs.WalkLaws.{operand}
 use Rattle.model.proofs.FloorLaws.{fits-read}
 use Rattle.model.proofs.BuildLaws.{OnModel, model-start, model-done, model-stop, model-next, prepared-after}
-use Rattle.model.proofs.ExistsLaws.{work-stuck, and-leaves, inverse-leaves, some-stops, some-goes, other-leaves}
+use Rattle.model.proofs.ExistsLaws.{work-stuck, and-leaves, inverse-leaves, some-stops, some-goes, other-leaves, Descending, descending-start, descending-next, descending-ends}
 use borrow.Fn.Kinds.{In}
 use borrow.Fn.PlainCycle.{Measures, is, falls, and}
 use Rattle.model.proofs.exists.materialise_all.Reads as materialise-all
@@ -51,7 +51,7 @@ abbrev materialise-all-claims : ℕ → materialise-all-lts.Claims
 materialise-all-claims t = (item-reads.Asked, item-reads.Learnt, materialise-exists-below t, materialise-exists.Post)
 
 abbrev materialise-exists-claims : ℕ → materialise-exists-lts.Claims
-materialise-exists-claims t = (concept-at-reads.Asked, concept-at-reads.Learnt, materialise-all-below t, materialise-all.Post, is-inverse-reads.Asked, is-inverse-reads.Learnt, role-id-reads.Asked, role-id-reads.Learnt, reach-body-reads.Asked, reach-body-reads.Learnt, materialise-exists-below t, materialise-exists.Post)
+materialise-exists-claims t = (concept-at-reads.Asked, concept-at-reads.Learnt, materialise-all-below t, materialise-all.Post, is-inverse-reads.Asked, is-inverse-reads.Learnt, role-id-reads.Asked, role-id-reads.Learnt, reach-body-reads.Asked, reach-body-reads.Learnt)
 
 abbrev materialise-all-Inv-loop : materialise-all-lts.InvT-loop
 materialise-all-Inv-loop deck bounds floor label₀ labels₀ edges₀ log₀ list e count i₀ held₀ label labels edges log i held =
@@ -124,98 +124,120 @@ materialise-all-returns-2 t c =
     let h : length (listOf (now (z .args .deck)) l) ≤ c .before .loop .i = omega (arith, list-length (now (z .args .deck)) (l .start) (l .count)) in
     model-done (c .before .loop .inv .2) (drop-of-length-le (listOf (now (z .args .deck)) l) h)
 
-materialise-exists-concept-at-requires : (t : ℕ) → materialise-exists-lts.Need-concept-at-requires (materialise-exists-claims t) (materialise-exists-at t) materialise-exists.Post
-materialise-exists-concept-at-requires t c κs = let z = c .before .before .before .before .before in (z .pre .1 .0 .accepted, z .pre .1 .1)
+abbrev materialise-exists-Inv-loop : materialise-exists-lts.InvT-loop
+materialise-exists-Inv-loop deck bounds floor label₀ labels₀ edges₀ log₀ held₀ c₀ e₀ label labels edges log held c e =
+    (length labels ≡ length labels₀) × Descending (deckOf deck) floor bounds (lent labels₀ edges₀ log₀) held₀ (c₀ .0) (e₀ .0) (lent labels edges log) label held (c .0) (e .0)
 
-materialise-exists-enum-known-expr : (t : ℕ) → materialise-exists-lts.Need-enum-known-expr (materialise-exists-claims t) (materialise-exists-at t) materialise-exists.Post
+abbrev materialise-exists-μ-loop : materialise-exists-lts.MeasureT-loop
+materialise-exists-μ-loop deck bounds floor label₀ labels₀ edges₀ log₀ held₀ c₀ e₀ label labels edges log held c e = c .0
+
+materialise-exists-loop-holds : (t : ℕ) → materialise-exists-lts.Need-loop-holds (materialise-exists-claims t) (materialise-exists-at t) materialise-exists.Post materialise-exists-Inv-loop materialise-exists-μ-loop
+materialise-exists-loop-holds t c = (refl, descending-start (c .before .before .before .before .before .pre .1 .0) _ _)
+
+materialise-exists-concept-at-requires : (t : ℕ) → materialise-exists-lts.Need-concept-at-requires (materialise-exists-claims t) (materialise-exists-at t) materialise-exists.Post materialise-exists-Inv-loop materialise-exists-μ-loop
+materialise-exists-concept-at-requires t c κs = (c .before .before .before .before .before .before .pre .1 .0 .accepted, omega (arith, c .loop .inv .1 .down, c .before .before .before .before .before .before .pre .1 .1))
+
+materialise-exists-enum-known-expr : (t : ℕ) → materialise-exists-lts.Need-enum-known-expr (materialise-exists-claims t) (materialise-exists-at t) materialise-exists.Post materialise-exists-Inv-loop materialise-exists-μ-loop
 materialise-exists-enum-known-expr t c = search needs
 
-materialise-exists-materialise-all-requires : (t : ℕ) → materialise-exists-lts.Need-materialise-all-requires (materialise-exists-claims t) (materialise-exists-at t) materialise-exists.Post
+materialise-exists-materialise-all-requires : (t : ℕ) → materialise-exists-lts.Need-materialise-all-requires (materialise-exists-claims t) (materialise-exists-at t) materialise-exists.Post materialise-exists-Inv-loop materialise-exists-μ-loop
 materialise-exists-materialise-all-requires t c κs =
-    let z = c .before .before .before .before .before .before .before .before .before .before .before .before .before in
-    (omega (arith, z .pre .0), (z .pre .1 .0, (z .pre .1 .1, fits-read _ (z .pre .1 .0 .accepted) (z .args .concept .0) (c .before .before .before .before .before .before .before .concept-at .ensures) _ (c .before .before .before .before .before .expr .given .1))))
+    let P = c .before .before .before .before .before .before .before .before .before .before .before .before .before .before .pre .1 .0 in
+    let G = c .before .before .before .before .before .before .before .before .loop .inv .1 in
+    (omega (arith, c .before .before .before .before .before .before .before .before .before .before .before .before .before .before .pre .0, G .down), (prepared-after P (G .built) refl, (omega (arith, G .down, c .before .before .before .before .before .before .before .before .before .before .before .before .before .before .pre .1 .1), fits-read _ (P .accepted) (c .before .before .before .before .before .before .before .before .loop .c .0) (c .before .before .before .before .before .before .before .concept-at .ensures) _ (c .before .before .before .before .before .expr .given .1))))
 
-materialise-exists-enum-known-expr-2 : (t : ℕ) → materialise-exists-lts.Need-enum-known-expr-2 (materialise-exists-claims t) (materialise-exists-at t) materialise-exists.Post
+materialise-exists-same-length : (t : ℕ) → materialise-exists-lts.Need-same-length (materialise-exists-claims t) (materialise-exists-at t) materialise-exists.Post materialise-exists-Inv-loop materialise-exists-μ-loop
+materialise-exists-same-length t c = c .before .before .before .before .before .before .before .materialise-all .ensures .wide ∙ sym (c .before .before .before .before .before .before .before .before .before .before .before .before .before .before .before .before .before .before .before .before .before .before .pre .1 .0 .label-wide)
+
+materialise-exists-same-length-2 : (t : ℕ) → materialise-exists-lts.Need-same-length-2 (materialise-exists-claims t) (materialise-exists-at t) materialise-exists.Post materialise-exists-Inv-loop materialise-exists-μ-loop
+materialise-exists-same-length-2 t c = c .before .before .before .before .before .before .before .materialise-all .kept .1 .1 .1 .1 .0 ∙ c .before .before .before .before .before .before .before .before .before .before .before .before .before .before .before .before .loop .inv .0
+
+materialise-exists-same-length-3 : (t : ℕ) → materialise-exists-lts.Need-same-length-3 (materialise-exists-claims t) (materialise-exists-at t) materialise-exists.Post materialise-exists-Inv-loop materialise-exists-μ-loop
+materialise-exists-same-length-3 t c = c .before .before .before .before .before .before .before .materialise-all .ensures .left .size ∙ c .before .before .before .before .before .before .before .before .before .before .before .before .before .before .before .before .loop .inv .1 .built .left .size
+
+materialise-exists-same-length-4 : (t : ℕ) → materialise-exists-lts.Need-same-length-4 (materialise-exists-claims t) (materialise-exists-at t) materialise-exists.Post materialise-exists-Inv-loop materialise-exists-μ-loop
+materialise-exists-same-length-4 t c = c .before .before .before .before .before .before .before .materialise-all .ensures .left .log-size ∙ c .before .before .before .before .before .before .before .before .before .before .before .before .before .before .before .before .loop .inv .1 .built .left .log-size
+
+materialise-exists-returns : (t : ℕ) → materialise-exists-lts.Need-returns (materialise-exists-claims t) (materialise-exists-at t) materialise-exists.Post materialise-exists-Inv-loop materialise-exists-μ-loop
+materialise-exists-returns t c = descending-ends (c .before .before .before .before .before .before .before .before .before .before .before .before .before .before .before .before .loop .inv .1) (and-leaves _ (c .before .before .before .before .before .before .before .before .before .before .before .before .before .before .before .before .before .before .before .before .before .before .pre .1 .0 .accepted) (c .before .before .before .before .before .before .before .before .before .before .before .before .before .before .before .before .loop .c .0) (c .before .before .before .before .before .before .before .before .before .before .before .before .before .before .before .concept-at .ensures) _ _ _ _ _ _ (c .before .before .before .before .before .before .before .before .before .before .before .before .before .expr .given .1) (c .before .before .before .before .before .before .before .materialise-all .ensures))
+
+materialise-exists-enum-known-expr-2 : (t : ℕ) → materialise-exists-lts.Need-enum-known-expr-2 (materialise-exists-claims t) (materialise-exists-at t) materialise-exists.Post materialise-exists-Inv-loop materialise-exists-μ-loop
 materialise-exists-enum-known-expr-2 t c = search needs
 
-materialise-exists-is-inverse-requires : (t : ℕ) → materialise-exists-lts.Need-is-inverse-requires (materialise-exists-claims t) (materialise-exists-at t) materialise-exists.Post
+materialise-exists-is-inverse-requires : (t : ℕ) → materialise-exists-lts.Need-is-inverse-requires (materialise-exists-claims t) (materialise-exists-at t) materialise-exists.Post materialise-exists-Inv-loop materialise-exists-μ-loop
 materialise-exists-is-inverse-requires t c κs = search needs
 
-materialise-exists-returns : (t : ℕ) → materialise-exists-lts.Need-returns (materialise-exists-claims t) (materialise-exists-at t) materialise-exists.Post
-materialise-exists-returns t c =
-    let z = c .before .before .before .before .before .before .before .before .before .before .before in
-    inverse-leaves _ (z .pre .1 .0 .accepted) (z .args .concept .0) (c .before .before .before .before .before .concept-at .ensures) _ _ _ _ _ _ _ (c .before .before .before .expr2 .given .1) (sym (c .before .is-inverse .ensures) ∙ c .if1 .taken) (z .pre .1 .0)
+materialise-exists-same-length-5 : (t : ℕ) → materialise-exists-lts.Need-same-length-5 (materialise-exists-claims t) (materialise-exists-at t) materialise-exists.Post materialise-exists-Inv-loop materialise-exists-μ-loop
+materialise-exists-same-length-5 t c = c .before .before .before .before .before .before .loop .inv .1 .built .wide ∙ sym (c .before .before .before .before .before .before .before .before .before .before .before .before .pre .1 .0 .label-wide)
 
-materialise-exists-role-id-requires : (t : ℕ) → materialise-exists-lts.Need-role-id-requires (materialise-exists-claims t) (materialise-exists-at t) materialise-exists.Post
+materialise-exists-same-length-6 : (t : ℕ) → materialise-exists-lts.Need-same-length-6 (materialise-exists-claims t) (materialise-exists-at t) materialise-exists.Post materialise-exists-Inv-loop materialise-exists-μ-loop
+materialise-exists-same-length-6 t c = c .before .before .before .before .before .before .loop .inv .0
+
+materialise-exists-same-length-7 : (t : ℕ) → materialise-exists-lts.Need-same-length-7 (materialise-exists-claims t) (materialise-exists-at t) materialise-exists.Post materialise-exists-Inv-loop materialise-exists-μ-loop
+materialise-exists-same-length-7 t c = c .before .before .before .before .before .before .loop .inv .1 .built .left .size
+
+materialise-exists-same-length-8 : (t : ℕ) → materialise-exists-lts.Need-same-length-8 (materialise-exists-claims t) (materialise-exists-at t) materialise-exists.Post materialise-exists-Inv-loop materialise-exists-μ-loop
+materialise-exists-same-length-8 t c = c .before .before .before .before .before .before .loop .inv .1 .built .left .log-size
+
+materialise-exists-returns-2 : (t : ℕ) → materialise-exists-lts.Need-returns-2 (materialise-exists-claims t) (materialise-exists-at t) materialise-exists.Post materialise-exists-Inv-loop materialise-exists-μ-loop
+materialise-exists-returns-2 t c =
+    let P = c .before .before .before .before .before .before .before .before .before .before .before .before .pre .1 .0 in
+    let G = c .before .before .before .before .before .before .loop .inv .1 in
+    descending-ends G (inverse-leaves _ (P .accepted) (c .before .before .before .before .before .before .loop .c .0) (c .before .before .before .before .before .concept-at .ensures) _ _ _ _ _ _ _ (c .before .before .before .expr2 .given .1) (sym (c .before .is-inverse .ensures) ∙ c .if1 .taken) (prepared-after P (G .built) refl))
+
+materialise-exists-role-id-requires : (t : ℕ) → materialise-exists-lts.Need-role-id-requires (materialise-exists-claims t) (materialise-exists-at t) materialise-exists.Post materialise-exists-Inv-loop materialise-exists-μ-loop
 materialise-exists-role-id-requires t c κs = search needs
 
-materialise-exists-reach-body-requires : (t : ℕ) → materialise-exists-lts.Need-reach-body-requires (materialise-exists-claims t) (materialise-exists-at t) materialise-exists.Post
+materialise-exists-reach-body-requires : (t : ℕ) → materialise-exists-lts.Need-reach-body-requires (materialise-exists-claims t) (materialise-exists-at t) materialise-exists.Post materialise-exists-Inv-loop materialise-exists-μ-loop
 materialise-exists-reach-body-requires t c κs =
-    let z = c .before .before .before .before .before .before .before .before .before .before .before .before .before .before .before .before in
-    let f = fits-read _ (z .pre .1 .0 .accepted) (z .args .concept .0) (c .before .before .before .before .before .before .before .before .before .before .concept-at .ensures) _ (c .before .before .before .before .before .before .before .before .expr2 .given .1) in
-    (z .pre .1 .0, (omega (arith, f .0, c .before .before .before .before .role-id .ensures), omega (arith, f .1, z .pre .1 .1)))
+    let P = c .before .before .before .before .before .before .before .before .before .before .before .before .before .before .before .before .before .pre .1 .0 in
+    let G = c .before .before .before .before .before .before .before .before .before .before .before .loop .inv .1 in
+    let f = fits-read _ (P .accepted) (c .before .before .before .before .before .before .before .before .before .before .before .loop .c .0) (c .before .before .before .before .before .before .before .before .before .before .concept-at .ensures) _ (c .before .before .before .before .before .before .before .before .expr2 .given .1) in
+    (prepared-after P (G .built) refl, (omega (arith, f .0, c .before .before .before .before .role-id .ensures), omega (arith, f .1, G .down, c .before .before .before .before .before .before .before .before .before .before .before .before .before .before .before .before .before .pre .1 .1)))
 
-materialise-exists-same-length : (t : ℕ) → materialise-exists-lts.Need-same-length (materialise-exists-claims t) (materialise-exists-at t) materialise-exists.Post
-materialise-exists-same-length t c = let z = c .before .before .before .before .before .before .before .before .before .before .before .before .before .before .before .before .before .before .before .before .before .before .before .before .before .before in c .before .before .before .before .before .before .before .before .before .reach-body .ensures .0 .wide ∙ sym (z .pre .1 .0 .label-wide)
+materialise-exists-same-length-9 : (t : ℕ) → materialise-exists-lts.Need-same-length-9 (materialise-exists-claims t) (materialise-exists-at t) materialise-exists.Post materialise-exists-Inv-loop materialise-exists-μ-loop
+materialise-exists-same-length-9 t c = c .before .before .before .before .before .before .before .before .before .reach-body .ensures .0 .wide ∙ sym (c .before .before .before .before .before .before .before .before .before .before .before .before .before .before .before .before .before .before .before .before .before .before .before .before .before .before .before .pre .1 .0 .label-wide)
 
-materialise-exists-same-length-2 : (t : ℕ) → materialise-exists-lts.Need-same-length-2 (materialise-exists-claims t) (materialise-exists-at t) materialise-exists.Post
-materialise-exists-same-length-2 t c = c .before .before .before .before .before .before .before .before .before .reach-body .kept .1 .1 .1 .1 .0
+materialise-exists-same-length-10 : (t : ℕ) → materialise-exists-lts.Need-same-length-10 (materialise-exists-claims t) (materialise-exists-at t) materialise-exists.Post materialise-exists-Inv-loop materialise-exists-μ-loop
+materialise-exists-same-length-10 t c = c .before .before .before .before .before .before .before .before .before .reach-body .kept .1 .1 .1 .1 .0 ∙ c .before .before .before .before .before .before .before .before .before .before .before .before .before .before .before .before .before .before .before .before .before .loop .inv .0
 
-materialise-exists-same-length-3 : (t : ℕ) → materialise-exists-lts.Need-same-length-3 (materialise-exists-claims t) (materialise-exists-at t) materialise-exists.Post
-materialise-exists-same-length-3 t c = c .before .before .before .before .before .before .before .before .before .reach-body .ensures .0 .left .size
+materialise-exists-same-length-11 : (t : ℕ) → materialise-exists-lts.Need-same-length-11 (materialise-exists-claims t) (materialise-exists-at t) materialise-exists.Post materialise-exists-Inv-loop materialise-exists-μ-loop
+materialise-exists-same-length-11 t c = c .before .before .before .before .before .before .before .before .before .reach-body .ensures .0 .left .size ∙ c .before .before .before .before .before .before .before .before .before .before .before .before .before .before .before .before .before .before .before .before .before .loop .inv .1 .built .left .size
 
-materialise-exists-same-length-4 : (t : ℕ) → materialise-exists-lts.Need-same-length-4 (materialise-exists-claims t) (materialise-exists-at t) materialise-exists.Post
-materialise-exists-same-length-4 t c = c .before .before .before .before .before .before .before .before .before .reach-body .ensures .0 .left .log-size
+materialise-exists-same-length-12 : (t : ℕ) → materialise-exists-lts.Need-same-length-12 (materialise-exists-claims t) (materialise-exists-at t) materialise-exists.Post materialise-exists-Inv-loop materialise-exists-μ-loop
+materialise-exists-same-length-12 t c = c .before .before .before .before .before .before .before .before .before .reach-body .ensures .0 .left .log-size ∙ c .before .before .before .before .before .before .before .before .before .before .before .before .before .before .before .before .before .before .before .before .before .loop .inv .1 .built .left .log-size
 
-materialise-exists-returns-2 : (t : ℕ) → materialise-exists-lts.Need-returns-2 (materialise-exists-claims t) (materialise-exists-at t) materialise-exists.Post
-materialise-exists-returns-2 t c =
-    let z = c .before .before .before .before .before .before .before .before .before .before .before .before .before .before .before .before .before .before .before .before .before .before .before .before .before .before in
-    some-stops _ (z .pre .1 .0 .accepted) (z .args .concept .0) (c .before .before .before .before .before .before .before .before .before .before .before .before .before .before .before .before .before .before .before .before .concept-at .ensures) _ _ _ _ _ _ _ (c .before .before .before .before .before .before .before .before .before .before .before .before .before .before .before .before .before .before .expr2 .given .1) (sym (c .before .before .before .before .before .before .before .before .before .before .before .before .before .before .before .before .is-inverse .ensures) ∙ c .before .before .before .before .before .before .before .before .before .before .before .before .before .before .before .if1 .left) (c .before .before .before .before .before .before .before .before .before .before .before .before .before .before .role-id .ensures) (c .before .before .before .before .before .before .before .before .before .reach-body .ensures .0) (c .if2 .taken)
+materialise-exists-returns-3 : (t : ℕ) → materialise-exists-lts.Need-returns-3 (materialise-exists-claims t) (materialise-exists-at t) materialise-exists.Post materialise-exists-Inv-loop materialise-exists-μ-loop
+materialise-exists-returns-3 t c = descending-ends (c .before .before .before .before .before .before .before .before .before .before .before .before .before .before .before .before .before .before .before .before .before .loop .inv .1) (some-stops _ (c .before .before .before .before .before .before .before .before .before .before .before .before .before .before .before .before .before .before .before .before .before .before .before .before .before .before .before .pre .1 .0 .accepted) (c .before .before .before .before .before .before .before .before .before .before .before .before .before .before .before .before .before .before .before .before .before .loop .c .0) (c .before .before .before .before .before .before .before .before .before .before .before .before .before .before .before .before .before .before .before .before .concept-at .ensures) _ _ _ _ _ _ _ (c .before .before .before .before .before .before .before .before .before .before .before .before .before .before .before .before .before .before .expr2 .given .1) (sym (c .before .before .before .before .before .before .before .before .before .before .before .before .before .before .before .before .is-inverse .ensures) ∙ c .before .before .before .before .before .before .before .before .before .before .before .before .before .before .before .if1 .left) (c .before .before .before .before .before .before .before .before .before .before .before .before .before .before .role-id .ensures) (c .before .before .before .before .before .before .before .before .before .reach-body .ensures .0) (c .if2 .taken))
 
-materialise-exists-materialise-exists-requires : (t : ℕ) → materialise-exists-lts.Need-materialise-exists-requires (materialise-exists-claims t) (materialise-exists-at t) materialise-exists.Post
-materialise-exists-materialise-exists-requires t c κs =
-    let z = c .before .before .before .before .before .before .before .before .before .before .before .before .before .before .before .before .before .before .before .before .before .before .before .before .before .before .before .before .before .before .before .before in
-    let f = fits-read _ (z .pre .1 .0 .accepted) (z .args .concept .0) (c .before .before .before .before .before .before .before .before .before .before .before .before .before .before .before .before .before .before .before .before .before .before .before .before .before .before .concept-at .ensures) _ (c .before .before .before .before .before .before .before .before .before .before .before .before .before .before .before .before .before .before .before .before .before .before .before .before .expr2 .given .1) in
-    (omega (arith, f .1, z .pre .0), (prepared-after (z .pre .1 .0) (c .before .before .before .before .before .before .before .before .before .before .before .before .before .before .before .reach-body .ensures .0) (c .before .before .before .before .before .before .if2 .left), omega (arith, f .1, z .pre .1 .1)))
+materialise-exists-loop-less : (t : ℕ) → materialise-exists-lts.Need-loop-less (materialise-exists-claims t) (materialise-exists-at t) materialise-exists.Post materialise-exists-Inv-loop materialise-exists-μ-loop
+materialise-exists-loop-less t c = fits-read _ (c .before .before .before .before .before .before .before .before .before .before .before .before .before .before .before .before .before .before .before .before .before .before .before .before .before .before .before .before .before .pre .1 .0 .accepted) (c .before .before .before .before .before .before .before .before .before .before .before .before .before .before .before .before .before .before .before .before .before .before .before .loop .c .0) (c .before .before .before .before .before .before .before .before .before .before .before .before .before .before .before .before .before .before .before .before .before .before .concept-at .ensures) _ (c .before .before .before .before .before .before .before .before .before .before .before .before .before .before .before .before .before .before .before .before .expr2 .given .1) .1
 
-materialise-exists-same-length-5 : (t : ℕ) → materialise-exists-lts.Need-same-length-5 (materialise-exists-claims t) (materialise-exists-at t) materialise-exists.Post
-materialise-exists-same-length-5 t c = let z = c .before .before .before .before .before .before .before .before .before .before .before .before .before .before .before .before .before .before .before .before .before in c .before .before .before .before .before .before .before .materialise-all .ensures .wide ∙ sym (z .pre .1 .0 .label-wide)
+materialise-exists-loop-again : (t : ℕ) → materialise-exists-lts.Need-loop-again (materialise-exists-claims t) (materialise-exists-at t) materialise-exists.Post materialise-exists-Inv-loop materialise-exists-μ-loop
+materialise-exists-loop-again t c =
+    let A = c .before .before .before .before .before .before .before .before .before .before .before .before .before .before .before .before .before .before .before .before .before .before .before .before .before .before .before .before .before .pre .1 .0 .accepted in
+    let R = c .before .before .before .before .before .before .before .before .before .before .before .before .before .before .before .before .before .before .before .before .before .before .concept-at .ensures in
+    let X = c .before .before .before .before .before .before .before .before .before .before .before .reach-body .ensures .0 in
+    let u = c .before .before .if2 .left in
+    (c .before .before .before .before .before .before .before .before .before .before .before .reach-body .kept .1 .1 .1 .1 .0 ∙ c .before .before .before .before .before .before .before .before .before .before .before .before .before .before .before .before .before .before .before .before .before .before .before .loop .inv .0, descending-next (c .before .before .before .before .before .before .before .before .before .before .before .before .before .before .before .before .before .before .before .before .before .before .before .loop .inv .1) X u (fits-read _ A (c .before .before .before .before .before .before .before .before .before .before .before .before .before .before .before .before .before .before .before .before .before .before .before .loop .c .0) R _ (c .before .before .before .before .before .before .before .before .before .before .before .before .before .before .before .before .before .before .before .before .expr2 .given .1) .1) (some-goes _ A (c .before .before .before .before .before .before .before .before .before .before .before .before .before .before .before .before .before .before .before .before .before .before .before .loop .c .0) R _ _ _ _ _ _ _ (c .before .before .before .before .before .before .before .before .before .before .before .before .before .before .before .before .before .before .before .before .expr2 .given .1) (sym (c .before .before .before .before .before .before .before .before .before .before .before .before .before .before .before .before .before .before .is-inverse .ensures) ∙ c .before .before .before .before .before .before .before .before .before .before .before .before .before .before .before .before .before .if1 .left) (c .before .before .before .before .before .before .before .before .before .before .before .before .before .before .before .before .role-id .ensures) X u (c .before .before .before .before .before .before .before .before .before .before .before .reach-body .ensures .1)))
 
-materialise-exists-same-length-6 : (t : ℕ) → materialise-exists-lts.Need-same-length-6 (materialise-exists-claims t) (materialise-exists-at t) materialise-exists.Post
-materialise-exists-same-length-6 t c = c .before .before .before .before .before .before .before .materialise-all .kept .1 .1 .1 .1 .0
+materialise-exists-same-length-13 : (t : ℕ) → materialise-exists-lts.Need-same-length-13 (materialise-exists-claims t) (materialise-exists-at t) materialise-exists.Post materialise-exists-Inv-loop materialise-exists-μ-loop
+materialise-exists-same-length-13 t c = c .before .before .loop .inv .1 .built .wide ∙ sym (c .before .before .before .before .before .before .before .before .pre .1 .0 .label-wide)
 
-materialise-exists-same-length-7 : (t : ℕ) → materialise-exists-lts.Need-same-length-7 (materialise-exists-claims t) (materialise-exists-at t) materialise-exists.Post
-materialise-exists-same-length-7 t c = c .before .before .before .before .before .before .before .materialise-all .ensures .left .size
+materialise-exists-same-length-14 : (t : ℕ) → materialise-exists-lts.Need-same-length-14 (materialise-exists-claims t) (materialise-exists-at t) materialise-exists.Post materialise-exists-Inv-loop materialise-exists-μ-loop
+materialise-exists-same-length-14 t c = c .before .before .loop .inv .0
 
-materialise-exists-same-length-8 : (t : ℕ) → materialise-exists-lts.Need-same-length-8 (materialise-exists-claims t) (materialise-exists-at t) materialise-exists.Post
-materialise-exists-same-length-8 t c = c .before .before .before .before .before .before .before .materialise-all .ensures .left .log-size
+materialise-exists-same-length-15 : (t : ℕ) → materialise-exists-lts.Need-same-length-15 (materialise-exists-claims t) (materialise-exists-at t) materialise-exists.Post materialise-exists-Inv-loop materialise-exists-μ-loop
+materialise-exists-same-length-15 t c = c .before .before .loop .inv .1 .built .left .size
 
-materialise-exists-returns-3 : (t : ℕ) → materialise-exists-lts.Need-returns-3 (materialise-exists-claims t) (materialise-exists-at t) materialise-exists.Post
-materialise-exists-returns-3 t c =
-    let z = c .before .before .before .before .before .before .before .before .before .before .before .before .before .before .before .before .before .before .before .before .before in
-    and-leaves _ (z .pre .1 .0 .accepted) (z .args .concept .0) (c .before .before .before .before .before .before .before .before .before .before .before .before .before .before .before .concept-at .ensures) _ _ _ _ _ _ (c .before .before .before .before .before .before .before .before .before .before .before .before .before .expr .given .1) (c .before .before .before .before .before .before .before .materialise-all .ensures)
+materialise-exists-same-length-16 : (t : ℕ) → materialise-exists-lts.Need-same-length-16 (materialise-exists-claims t) (materialise-exists-at t) materialise-exists.Post materialise-exists-Inv-loop materialise-exists-μ-loop
+materialise-exists-same-length-16 t c = c .before .before .loop .inv .1 .built .left .log-size
 
-materialise-exists-same-length-9 : (t : ℕ) → materialise-exists-lts.Need-same-length-9 (materialise-exists-claims t) (materialise-exists-at t) materialise-exists.Post
-materialise-exists-same-length-9 t c = let z = c .before .before .before .before .before .before .before .before .before .before .before .before .before .before .before .before .before .before .before .before .before .before .before .before .before .before .before .before .before .before .before .before .before .before .before .before .before .before .before .before in c .before .before .before .before .before .before .before .materialise-exists .ensures .wide ∙ sym (z .pre .1 .0 .label-wide)
-
-materialise-exists-same-length-10 : (t : ℕ) → materialise-exists-lts.Need-same-length-10 (materialise-exists-claims t) (materialise-exists-at t) materialise-exists.Post
-materialise-exists-same-length-10 t c = c .before .before .before .before .before .before .before .materialise-exists .kept .1 .1 .1 .1 .0 ∙ c .before .before .before .before .before .before .before .before .before .before .before .before .before .before .before .before .before .before .before .before .before .before .before .reach-body .kept .1 .1 .1 .1 .0
-
-materialise-exists-same-length-11 : (t : ℕ) → materialise-exists-lts.Need-same-length-11 (materialise-exists-claims t) (materialise-exists-at t) materialise-exists.Post
-materialise-exists-same-length-11 t c = c .before .before .before .before .before .before .before .materialise-exists .ensures .left .size ∙ c .before .before .before .before .before .before .before .before .before .before .before .before .before .before .before .before .before .before .before .before .before .before .before .reach-body .ensures .0 .left .size
-
-materialise-exists-same-length-12 : (t : ℕ) → materialise-exists-lts.Need-same-length-12 (materialise-exists-claims t) (materialise-exists-at t) materialise-exists.Post
-materialise-exists-same-length-12 t c = c .before .before .before .before .before .before .before .materialise-exists .ensures .left .log-size ∙ c .before .before .before .before .before .before .before .before .before .before .before .before .before .before .before .before .before .before .before .before .before .before .before .reach-body .ensures .0 .left .log-size
-
-materialise-exists-returns-4 : (t : ℕ) → materialise-exists-lts.Need-returns-4 (materialise-exists-claims t) (materialise-exists-at t) materialise-exists.Post
+materialise-exists-returns-4 : (t : ℕ) → materialise-exists-lts.Need-returns-4 (materialise-exists-claims t) (materialise-exists-at t) materialise-exists.Post materialise-exists-Inv-loop materialise-exists-μ-loop
 materialise-exists-returns-4 t c =
-    let z = c .before .before .before .before .before .before .before .before .before .before .before .before .before .before .before .before .before .before .before .before .before .before .before .before .before .before .before .before .before .before .before .before .before .before .before .before .before .before .before .before in
-    some-goes _ (z .pre .1 .0 .accepted) (z .args .concept .0) (c .before .before .before .before .before .before .before .before .before .before .before .before .before .before .before .before .before .before .before .before .before .before .before .before .before .before .before .before .before .before .before .before .before .before .concept-at .ensures) _ _ _ _ _ _ _ (c .before .before .before .before .before .before .before .before .before .before .before .before .before .before .before .before .before .before .before .before .before .before .before .before .before .before .before .before .before .before .before .before .expr2 .given .1) (sym (c .before .before .before .before .before .before .before .before .before .before .before .before .before .before .before .before .before .before .before .before .before .before .before .before .before .before .before .before .before .before .is-inverse .ensures) ∙ c .before .before .before .before .before .before .before .before .before .before .before .before .before .before .before .before .before .before .before .before .before .before .before .before .before .before .before .before .before .if1 .left) (c .before .before .before .before .before .before .before .before .before .before .before .before .before .before .before .before .before .before .before .before .before .before .before .before .before .before .before .before .role-id .ensures) (c .before .before .before .before .before .before .before .before .before .before .before .before .before .before .before .before .before .before .before .before .before .before .before .reach-body .ensures .0) (c .before .before .before .before .before .before .before .before .before .before .before .before .before .before .if2 .left) (c .before .before .before .before .before .before .before .before .before .before .before .before .before .before .before .before .before .before .before .before .before .before .before .reach-body .ensures .1) (c .before .before .before .before .before .before .before .materialise-exists .ensures)
-
-materialise-exists-returns-5 : (t : ℕ) → materialise-exists-lts.Need-returns-5 (materialise-exists-claims t) (materialise-exists-at t) materialise-exists.Post
-materialise-exists-returns-5 t c =
-    let z = c .before .before .before .before .before .before .before in
-    other-leaves _ (z .pre .1 .0 .accepted) (z .args .concept .0) (c .before .concept-at .ensures) _ _ _ _ _ (c .match .keys3) (z .pre .1 .0)
+    let P = c .before .before .before .before .before .before .before .before .pre .1 .0 in
+    let G = c .before .before .loop .inv .1 in
+    descending-ends G (other-leaves _ (P .accepted) (c .before .before .loop .c .0) (c .before .concept-at .ensures) _ _ _ _ _ (c .match .keys3) (prepared-after P (G .built) refl))
 
 pub +materialise-all+materialise-exists-spec : {M : Type 1} → statement M
 +materialise-all+materialise-exists-spec =
@@ -243,28 +265,35 @@ pub +materialise-all+materialise-exists-spec : {M : Type 1} → statement M
     λ t. materialise-exists-lts.spec (materialise-exists-claims t)
     (materialise-exists-at t)
     materialise-exists.Post
+    materialise-exists-Inv-loop
+    materialise-exists-μ-loop
+    (materialise-exists-loop-holds t)
     (materialise-exists-concept-at-requires t)
     (materialise-exists-enum-known-expr t)
     (materialise-exists-materialise-all-requires t)
-    (materialise-exists-enum-known-expr-2 t)
-    (materialise-exists-is-inverse-requires t)
-    (materialise-exists-returns t)
-    (materialise-exists-role-id-requires t)
-    (materialise-exists-reach-body-requires t)
     (materialise-exists-same-length t)
     (materialise-exists-same-length-2 t)
     (materialise-exists-same-length-3 t)
     (materialise-exists-same-length-4 t)
-    (materialise-exists-returns-2 t)
-    (materialise-exists-materialise-exists-requires t)
+    (materialise-exists-returns t)
+    (materialise-exists-enum-known-expr-2 t)
+    (materialise-exists-is-inverse-requires t)
     (materialise-exists-same-length-5 t)
     (materialise-exists-same-length-6 t)
     (materialise-exists-same-length-7 t)
     (materialise-exists-same-length-8 t)
-    (materialise-exists-returns-3 t)
+    (materialise-exists-returns-2 t)
+    (materialise-exists-role-id-requires t)
+    (materialise-exists-reach-body-requires t)
     (materialise-exists-same-length-9 t)
     (materialise-exists-same-length-10 t)
     (materialise-exists-same-length-11 t)
     (materialise-exists-same-length-12 t)
+    (materialise-exists-returns-3 t)
+    (materialise-exists-loop-less t)
+    (materialise-exists-loop-again t)
+    (materialise-exists-same-length-13 t)
+    (materialise-exists-same-length-14 t)
+    (materialise-exists-same-length-15 t)
+    (materialise-exists-same-length-16 t)
     (materialise-exists-returns-4 t)
-    (materialise-exists-returns-5 t)

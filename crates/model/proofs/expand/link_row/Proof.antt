@@ -8,8 +8,6 @@ use Rattle.model.proofs.expand.link_row.Statement.{statement}
 use Rattle.model.proofs.expand.link_row.Tie as tie
 use Rattle.model.proofs.expand.link_row.Reads as reads
 use Rattle.model.proofs.expand.link_row.Lts as lts
-use Rattle.model.proofs.reach.reach.Reads as reach-reads
-use Rattle.model.proofs.subsumers.load_row.Reads as load-row-reads
 
 load-row-requires : tie.Need-load-row-requires
 load-row-requires c κs = search needs

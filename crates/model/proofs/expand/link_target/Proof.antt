@@ -7,8 +7,6 @@ use Rattle.model.proofs.expand.link_target.Statement.{statement}
 use Rattle.model.proofs.expand.link_target.Tie as tie
 use Rattle.model.proofs.expand.link_target.Reads as reads
 use Rattle.model.proofs.expand.link_target.Lts as lts
-use Rattle.model.proofs.expand.link_row.Reads as link-row-reads
-use Rattle.model.proofs.expand.note.Reads as note-reads
 
 enum-known-target : tie.Need-enum-known-target
 enum-known-target c = search needs
