@@ -12,9 +12,9 @@
  * the first four words of `answer`, and words past the used part of any buffer are as they were. `answer` needs at least
  * STYLE_DECK_ANSWER_WORDS words: a shorter one is refused as 9, before anything else is looked at.
  *
- * Stack: a call goes as deep as the deck's concepts nest, at most 16,384 levels. The deepest deck takes about 9 MB in a run,
- * which is more than a first thread commonly has; STYLE_DECK_STACK_BYTES are enough for every deck. A program that is
- * handed decks by others makes its calls on a thread with that much.
+ * Stack: a call goes as deep as the deck's concepts nest, at most 16,384 levels. The deepest deck takes less than 7 MB in a
+ * run; STYLE_DECK_STACK_BYTES are enough for every deck. A program that is handed decks by others makes its calls on a thread
+ * with that much.
  */
 #ifndef STYLE_DECK_H
 #define STYLE_DECK_H
@@ -30,7 +30,7 @@ extern "C" {
 #define STYLE_DECK_ANSWER_WORDS 4u
 
 /* Stack that is enough for every call. */
-#define STYLE_DECK_STACK_BYTES (16u * 1024 * 1024)
+#define STYLE_DECK_STACK_BYTES (8u * 1024 * 1024)
 
 /* Why a deck, a run or a question is refused. Of several, the first found is given: 1 to 4; then record by record 5, 6, 7;
  * then 8, 9 for a run, or 10, 11 for a question about a lent structure. */
