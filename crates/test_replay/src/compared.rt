@@ -150,7 +150,16 @@ pub fn expect_concepts(
     let mut seen = c;
     let mut concept = 0;
     while concept < concepts {
-        seen = expect_concept(data, seen, deck, labels, edges, elements, edge_count, concept);
+        seen = expect_concept(
+            data,
+            seen,
+            deck,
+            labels,
+            edges,
+            elements,
+            edge_count,
+            concept,
+        );
         concept += 1;
     }
     seen

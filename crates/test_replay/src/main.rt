@@ -60,7 +60,16 @@ fn expect_left(
     let two = compared::expect_edges(data, one, edges, t.edges);
     let three = compared::expect_words(data, two, log, log_words(t.reasons));
     let four = compared::expect_words(data, three, verdicts, asked.verdict_words);
-    compared::expect_concepts(data, four, deck, labels, edges, t.elements, t.edges, asked.concepts)
+    compared::expect_concepts(
+        data,
+        four,
+        deck,
+        labels,
+        edges,
+        t.elements,
+        t.edges,
+        asked.concepts,
+    )
 }
 
 // A run that is refused differs in its first word.
