@@ -85,9 +85,31 @@ pub fn check(deck: &[u8]) -> u32 {
     unsafe { style_deck_check(deck.as_ptr(), deck.len()) }
 }
 
-/// How many edges a structure has; more than a count can say are more than the library takes.
-fn edge_count(structure: &Structure) -> Result<u32, Refusal> {
-    u32::try_from(structure.edges().len()).map_err(|_| Refusal::ForeignStructure)
+/// Asks one of the two questions about a structure: the arguments that both have, and its own. More edges than a count can
+/// say are more than the library takes.
+macro_rules! ask {
+    ($question:ident, $deck:ident, $structure:ident, $answer:ident, $($own:expr),+) => {{
+        let Ok(count) = u32::try_from($structure.edges().len()) else {
+            return Refusal::ForeignStructure.number();
+        };
+        let (labels, edges) = ($structure.labels(), $structure.edges());
+        // SAFETY: every slice is lent whole, and `answer` is borrowed alone.
+        on_own_stack(|| unsafe {
+            $question(
+                $deck.as_ptr(),
+                $deck.len(),
+                labels.as_ptr(),
+                labels.len(),
+                $structure.elements(),
+                edges.as_ptr(),
+                edges.len(),
+                count,
+                $($own),+,
+                $answer.as_mut_ptr(),
+                $answer.len(),
+            )
+        })
+    }};
 }
 
 pub fn eval_concept(
@@ -97,52 +119,18 @@ pub fn eval_concept(
     element: Element,
     answer: &mut [u32; 4],
 ) -> u32 {
-    let count = match edge_count(structure) {
-        Ok(count) => count,
-        Err(refusal) => return refusal.number(),
-    };
-    let (labels, edges) = (structure.labels(), structure.edges());
-    // SAFETY: every slice is lent whole, and `answer` is borrowed alone.
-    on_own_stack(|| unsafe {
-        style_deck_eval_concept(
-            deck.as_ptr(),
-            deck.len(),
-            labels.as_ptr(),
-            labels.len(),
-            structure.elements(),
-            edges.as_ptr(),
-            edges.len(),
-            count,
-            concept.0,
-            element.0,
-            answer.as_mut_ptr(),
-            answer.len(),
-        )
-    })
+    ask!(
+        style_deck_eval_concept,
+        deck,
+        structure,
+        answer,
+        concept.0,
+        element.0
+    )
 }
 
 pub fn check_axiom(deck: &[u8], structure: &Structure, axiom: u32, answer: &mut [u32; 4]) -> u32 {
-    let count = match edge_count(structure) {
-        Ok(count) => count,
-        Err(refusal) => return refusal.number(),
-    };
-    let (labels, edges) = (structure.labels(), structure.edges());
-    // SAFETY: every slice is lent whole, and `answer` is borrowed alone.
-    on_own_stack(|| unsafe {
-        style_deck_check_axiom(
-            deck.as_ptr(),
-            deck.len(),
-            labels.as_ptr(),
-            labels.len(),
-            structure.elements(),
-            edges.as_ptr(),
-            edges.len(),
-            count,
-            axiom,
-            answer.as_mut_ptr(),
-            answer.len(),
-        )
-    })
+    ask!(style_deck_check_axiom, deck, structure, answer, axiom)
 }
 
 pub fn run(

@@ -124,10 +124,6 @@ module _ (D : Deck) (n limit : ℕ) where
   unfolding closeAxiom
   axiom-stuck x s e = by-stuck (ruleOf x) s e
 
-  pub pass-stuck : (s : State) → s .tripped ≡ true → closePass D n limit s ≡ s
-  unfolding closePass
-  pass-stuck s e = walk-fixed _ (D .axioms) s (λ x. axiom-stuck x s e)
-
   -- ---- what an edge that a rule asks for keeps
   -- Q is kept where the edge of a stood in s, the edge of b in u, and t is the present state
   unfoldable pub Keeps : (State → Type 0) → ℕ → ℕ → ℕ → Type 0
@@ -180,14 +176,6 @@ grows-trans {es} {fs} {gs} G H = record { more = G .more ++ H .more; is = H .is 
 
 pub grows-length : {es fs : List Edge} → Grows es fs → length es ≤ length fs
 grows-length {es} {fs} G = omega (arith, ap length (G .is) ∙ length-append es (G .more))
-
--- one that has not become longer is the same
-pub grows-same : {es fs : List Edge} → Grows es fs → length fs ≡ length es → fs ≡ es
-grows-same {es} {fs} G e = go (G .more) (G .is)
-  where
-    go : (m : List Edge) → fs ≡ es ++ m → fs ≡ es
-    go [] q = q ∙ append-nil es
-    go (x ∷ m) q = absurd (omega (arith, ap length q ∙ length-append es (x ∷ m)))
 
 pub walk-grows : {A : Type 0} (f : A → State → State) → ((x : A) (s : State) → Grows (s .edges) (f x s .edges)) → (xs : List A) (s : State) → Grows (s .edges) (walk f xs s .edges)
 walk-grows f h xs s = walk-keeps (λ t. Grows (s .edges) (t .edges)) f xs (λ x i t g. grows-trans g (h x t)) s (grows-refl (s .edges))

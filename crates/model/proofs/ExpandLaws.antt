@@ -1,7 +1,7 @@
 -- Expanding by the facts: case by case, and turn by turn.
 --     link-row, link-delta, link-none       a target, by how it is labelled
 --     fact-other, fact-own, class-yes, class-no
---     Turning                               the loop: the bound on the number of turns is never what ends it
+--     Taking                               the loop: the bound on the number of turns is never what ends it
 use Prim.Native.Nat.{ℕ, zero, suc, _+_, _*_, _-_, _/_, _<_, _≤_}
 use mathlib.Core.Path.{_≡_, refl, sym, ap, _∙_, subst}
 use mathlib.Core.Bool.{Bool, true, false, cond, _||_, or-true, or-false}
@@ -163,21 +163,21 @@ module _ (D : Deck) (floor : List ℕ) (B : Bounds) (taken : List ℕ) (m : Mode
   turns-next f e t h = cond-false (m .state .tripped) m _ t ∙ rw h
 
 -- the turns have come to where `taken` are taken, whatever surplus d of turns there is
-pub record Turning (D : Deck) (floor : List ℕ) (B : Bounds) (b : Buffers) (t : Tally) (b₁ : Buffers) (l₁ : List ℕ) (held : Tally) (taken : List ℕ) : Type 0 where
+pub record Taking (D : Deck) (floor : List ℕ) (B : Bounds) (b : Buffers) (t : Tally) (b₁ : Buffers) (l₁ : List ℕ) (held : Tally) (taken : List ℕ) : Type 0 where
   pub built : Built D B b t b₁ l₁ (quiet held) (begun D b₁ held)
   pub size : length taken ≡ 1024
   pub goes : (d : ℕ) → expandIn D floor B (65536 + d) (begun D b t) ≡ turns D floor B (untaken taken 65536 + d) taken (begun D b₁ held)
 
-pub turning-start : {s : List ℕ} {B : Bounds} {b : Buffers} {t : Tally} {floor label : List ℕ} → Prepared s B b t floor label → {taken : List ℕ} → taken ≡ replicate 1024 0 → Turning (deckOf s) floor B b t b label t taken
-turning-start {s} {B} {b} {t} {floor} P {taken} e = record {
+pub taking-start : {s : List ℕ} {B : Bounds} {b : Buffers} {t : Tally} {floor label : List ℕ} → Prepared s B b t floor label → {taken : List ℕ} → taken ≡ replicate 1024 0 → Taking (deckOf s) floor B b t b label t taken
+taking-start {s} {B} {b} {t} {floor} P {taken} e = record {
   built = built-same P;
   size = ap length e ∙ length-replicate {A = ℕ} 1024 0;
   goes = λ d. rw (e, untaken-none 1024 65536);
 }
 
-module _ {D : Deck} {floor : List ℕ} {B : Bounds} {b : Buffers} {t : Tally} {b₁ : Buffers} {l₁ : List ℕ} {held : Tally} {taken : List ℕ} (G : Turning D floor B b t b₁ l₁ held taken) where
-  pub turning-done : {n : ℕ} → n ≡ highest taken (held .elements) → n ≡ 0 → (d : ℕ) → Built D B b t b₁ l₁ (quiet held) (expandIn D floor B (65536 + d) (begun D b t))
-  turning-done q z d =
+module _ {D : Deck} {floor : List ℕ} {B : Bounds} {b : Buffers} {t : Tally} {b₁ : Buffers} {l₁ : List ℕ} {held : Tally} {taken : List ℕ} (G : Taking D floor B b t b₁ l₁ held taken) where
+  pub taking-done : {n : ℕ} → n ≡ highest taken (held .elements) → n ≡ 0 → (d : ℕ) → Built D B b t b₁ l₁ (quiet held) (expandIn D floor B (65536 + d) (begun D b t))
+  taking-done q z d =
       built-is (G .built)
       (sym (G .goes d ∙ turns-none D floor B taken (begun D b₁ held) (untaken taken 65536 + d) (ap (highest taken) (length-rows (labelWidth D) (held .elements) (b₁ .labels)) ∙ sym q ∙ z)))
 
@@ -186,18 +186,18 @@ module _ {D : Deck} {floor : List ℕ} {B : Bounds} {b : Buffers} {t : Tally} {b
     one-up = let y : n ≡ suc (n - 1) = omega (arith, z) in sym q ∙ y
 
     -- the element that is taken is one of them
-    pub turning-below : n - 1 < held .elements
-    turning-below = highest-is taken (held .elements) (n - 1) one-up .0
+    pub taking-below : n - 1 < held .elements
+    taking-below = highest-is taken (held .elements) (n - 1) one-up .0
 
     module _ (small : held .elements ≤ 65536) where
-      pub turning-place : (n - 1) / 64 < 1024
-      turning-place = omega (arith, turning-below)
+      pub taking-place : (n - 1) / 64 < 1024
+      taking-place = omega (arith, taking-below)
 
       fewer : untaken taken 65536 ≡ suc (untaken (insertBit taken (n - 1)) 65536)
-      fewer = untaken-take taken (n - 1) 65536 (omega (arith, turning-below)) (omega (arith, turning-below, G .size)) (highest-is taken (held .elements) (n - 1) one-up .1)
+      fewer = untaken-take taken (n - 1) 65536 (omega (arith, taking-below)) (omega (arith, taking-below, G .size)) (highest-is taken (held .elements) (n - 1) one-up .1)
 
-      pub turning-less : {now : List ℕ} → now ≡ insertBit taken (n - 1) → untaken now 65536 < untaken taken 65536
-      turning-less e = rw e (omega (arith, fewer))
+      pub taking-less : {now : List ℕ} → now ≡ insertBit taken (n - 1) → untaken now 65536 < untaken taken 65536
+      taking-less e = rw e (omega (arith, fewer))
 
       step : (d : ℕ) → expandIn D floor B (65536 + d) (begun D b t) ≡ turns D floor B (untaken (insertBit taken (n - 1)) 65536 + d) (insertBit taken (n - 1)) (workClasses D floor B (n - 1) (begun D b₁ held))
       step d =
@@ -206,13 +206,13 @@ module _ {D : Deck} {floor : List ℕ} {B : Bounds} {b : Buffers} {t : Tally} {b
           ∙ turns-next D floor B taken (begun D b₁ held) (untaken (insertBit taken (n - 1)) 65536 + d) (n - 1) refl (ap (highest taken) (length-rows (labelWidth D) (held .elements) (b₁ .labels)) ∙ one-up)
 
       module _ {b₂ : Buffers} {l₂ : List ℕ} {r : Step} (X : Built D B b₁ held b₂ l₂ r (workClasses D floor B (n - 1) (begun D b₁ held))) where
-        pub turning-stop : r .tripped ≡ true → (d : ℕ) → Built D B b t b₂ l₂ r (expandIn D floor B (65536 + d) (begun D b t))
-        turning-stop w d =
+        pub taking-stop : r .tripped ≡ true → (d : ℕ) → Built D B b t b₂ l₂ r (expandIn D floor B (65536 + d) (begun D b t))
+        taking-stop w d =
             built-is (built-trans (G .built) X)
             (sym (step d ∙ turns-tripped D floor B (insertBit taken (n - 1)) (workClasses D floor B (n - 1) (begun D b₁ held)) (untaken (insertBit taken (n - 1)) 65536 + d) (built-tripped X ∙ w)))
 
-        pub turning-next : r .tripped ≡ false → {now : List ℕ} → now ≡ insertBit taken (n - 1) → length now ≡ 1024 → Turning D floor B b t b₂ l₂ (r .tally) now
-        turning-next w e k = record {
+        pub taking-next : r .tripped ≡ false → {now : List ℕ} → now ≡ insertBit taken (n - 1) → length now ≡ 1024 → Taking D floor B b t b₂ l₂ (r .tally) now
+        taking-next w e k = record {
           built = built-quiet (built-trans (G .built) X) w;
           size = k;
           goes = λ d. rw e (step d ∙ ap (turns D floor B (untaken (insertBit taken (n - 1)) 65536 + d) (insertBit taken (n - 1))) (sym (built-start X w)));

@@ -119,11 +119,6 @@ held-intern {w} {buf₀} {buf} {n} {ls} h l exit e m wl p =
     (interned-grows ls l .0)
 
 -- membership
-pub mem-interned : (ls : List (List ℕ)) (l x : List ℕ) → List·Memᴰ x (interned ls l) → List·Memᴰ x ls ⊎ (x ≡ l)
-unfolding interned
-mem-interned ls l x = by-cond (λ (r : List (List ℕ)). List·Memᴰ x r → List·Memᴰ x ls ⊎ (x ≡ l)) (ltb (indexOf ls l) (length ls)) ls (ls ++ (l ∷ [])) (λ m. inl m)
-    (λ m. ⊎-elim (λ p. inl p) (λ p. inr (List·Memᴰ·eq-of-singleton p)) (List·Memᴰ·append-cases ls m))
-
 pub interned-keeps : (ls : List (List ℕ)) (l x : List ℕ) → List·Memᴰ x ls → List·Memᴰ x (interned ls l)
 unfolding interned
 interned-keeps ls l x m = by-cond (List·Memᴰ x) (ltb (indexOf ls l) (length ls)) ls (ls ++ (l ∷ [])) m (Memᴰ·append-left (l ∷ []) m)
@@ -141,9 +136,6 @@ interned-has ls l = by-order (lt-or-le (indexOf ls l) (length ls)) where
   by-order : (indexOf ls l < length ls) ⊎ (length ls ≤ indexOf ls l) → List·Memᴰ l (interned ls l)
   by-order (inr h) = rw (interned-new ls l h) (Memᴰ·append-right ls (List·Memᴰ·head refl))
   by-order (inl h) = rw (interned-known ls l h) (index-mem ls l h)
-
-pub placed-below : (w n : ℕ) (entry exit l : List ℕ) (x m : ℕ) → Placed entry exit (rowsOf w n entry) l x m → x ≤ n
-placed-below w n entry exit l x m p = omega (arith, p .place, index-le (rowsOf w n entry) l, length-rows w n entry)
 
 -- ---- labels only grow by an append
 pub record Extends (ls ms : List (List ℕ)) : Type 0 where

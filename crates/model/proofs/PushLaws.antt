@@ -1,7 +1,7 @@
 -- What a step leaves in the buffers, and steps one after the other.
 --     left-same, left-trans, left-is     no step, two steps, the same state
 --     left-trips, left-stays, left-known, left-new   adding an edge
---     left-answer, left-words            the contract as plain equalities
+--     left-words, left-log               the contract as plain equalities
 use Prim.Native.Nat.{ℕ, zero, suc, _+_, _/_, _<_, _≤_}
 use mathlib.Core.Bool.{Bool, true, false, cond, _&&_}
 use mathlib.Core.Path.{_≡_, refl, sym, ap, _∙_}
@@ -19,7 +19,7 @@ use Rattle.model.specs.declared.reasons.Reason.{Reason}
 use Rattle.model.specs.declared.tally.Tally.{Tally}
 use Rattle.model.specs.declared.tally.Step.{Step}
 use Rattle.model.specs.Reasons.{logged, noted, counted, boundTripped}
-use Rattle.model.specs.Push.{State, added, pushEdge, reached, quiet, start, stored, answer, Room, Left}
+use Rattle.model.specs.Push.{State, added, pushEdge, reached, quiet, start, stored, Room, Left}
 
 -- ---- lists
 pub map-append : {A B : Type 0} (f : A → B) (xs ys : List A) → map f (xs ++ ys) ≡ map f xs ++ map f ys
@@ -127,10 +127,7 @@ module _ {limit : ℕ} {was : List (List ℕ)} {log : List ℕ} {t : Tally} {now
   pub left-edges : edgesOf now (r .tally .edges) ≡ s .edges
   left-edges = ap (λ (u : State). u .edges) (L .is)
 
-  -- the same as equalities: the answer, the lent list and the log
-  pub left-answer : r ≡ answer (t .elements) s
-  left-answer = let c : r ≡ answer (t .elements) (reached now log′ r) = rw (left-count, ← L .elements) in c ∙ ap (answer (t .elements)) (L .is)
-
+  -- the same as equalities: the lent list and the log
   pub left-words : now ≡ stored was (t .edges) (s .edges)
   left-words = L .words ∙ ap (stored was (t .edges)) left-edges
 

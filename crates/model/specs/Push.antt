@@ -54,10 +54,6 @@ start rows log t = reached rows log (quiet t)
 unfoldable pub stored : List (List ℕ) → ℕ → List Edge → List (List ℕ)
 stored was count es = sets was count (map rowOf (drop count es))
 
--- what a state hands back, over n elements
-abbrev pub answer : ℕ → State → Step
-answer n s = record { tally = record { elements = n; edges = length (s .edges); reasons = s .reasons }; tripped = s .tripped }
-
 -- room for one edge more than the bound: "edges max_edges + 1"; the bound is at most 1,048,575
 pub record Room (limit : ℕ) (rows : List (List ℕ)) (count : ℕ) : Type 0 where
   pub bound : count ≤ limit

@@ -159,48 +159,38 @@ pub struct Structure<'a> {
     pub edge_count: u32,
 }
 
-impl Structure<'_> {
-    /// The judgement's words, or the number of the refusal.
-    pub fn concept(&self, deck: &[u8], concept: u32, element: u32) -> Result<[u32; 4], u32> {
+/// Asks one of the two questions about a structure: the arguments that both have, and its own.
+macro_rules! ask {
+    ($question:ident, $structure:ident, $deck:ident, $($own:expr),+) => {{
         let mut answer = [u32::MAX; 4];
         let number = unsafe {
-            style_deck_eval_concept(
-                deck.as_ptr(),
-                deck.len(),
-                self.labels.as_ptr(),
-                self.labels.len(),
-                self.elements,
-                self.edges.as_ptr(),
-                self.edges.len(),
-                self.edge_count,
-                concept,
-                element,
+            $question(
+                $deck.as_ptr(),
+                $deck.len(),
+                $structure.labels.as_ptr(),
+                $structure.labels.len(),
+                $structure.elements,
+                $structure.edges.as_ptr(),
+                $structure.edges.len(),
+                $structure.edge_count,
+                $($own),+,
                 answer.as_mut_ptr(),
-                4,
+                answer.len(),
             )
         };
         answered(number, answer)
+    }};
+}
+
+impl Structure<'_> {
+    /// The judgement's words, or the number of the refusal.
+    pub fn concept(&self, deck: &[u8], concept: u32, element: u32) -> Result<[u32; 4], u32> {
+        ask!(style_deck_eval_concept, self, deck, concept, element)
     }
 
     /// The verdict's words, or the number of the refusal.
     pub fn axiom(&self, deck: &[u8], axiom: u32) -> Result<[u32; 4], u32> {
-        let mut answer = [u32::MAX; 4];
-        let number = unsafe {
-            style_deck_check_axiom(
-                deck.as_ptr(),
-                deck.len(),
-                self.labels.as_ptr(),
-                self.labels.len(),
-                self.elements,
-                self.edges.as_ptr(),
-                self.edges.len(),
-                self.edge_count,
-                axiom,
-                answer.as_mut_ptr(),
-                4,
-            )
-        };
-        answered(number, answer)
+        ask!(style_deck_check_axiom, self, deck, axiom)
     }
 }
 
