@@ -1,9 +1,10 @@
 // The verifier's entry points for a program in C or Rust, on numbers and slices: a slice passes as a pointer and a
 // length. include/style_deck.h says to a caller what each argument is. Each function returns 0 or the number of a
-// refusal; what else it answers goes into four words that the caller lends.
+// refusal, and what else it answers goes into four words that the caller lends; `style_deck_report` returns a length.
 mod words;
 
 ghost use mathlib.Core.Path.{_≡_};
+ghost use lib.ListN.{take};
 ghost use Rattle.deck.specs.Content.{deckOf};
 ghost use Rattle.eval.specs.Entry.{shapeOf};
 ghost use Rattle.eval.specs.Lent.{structureOf};
@@ -11,6 +12,10 @@ ghost use Rattle.capi.specs.Words.{told};
 ghost use Rattle.capi.specs.Calls as spec;
 ghost use Rattle.capi.specs.Calls.{checkDeck, evalConcept, checkAxiom, called, boundsOf};
 ghost use Rattle.capi.specs.Promises.{Judged, Checked, Relied};
+ghost use Rattle.model.specs.declared.outcome.Outcome.{Outcome};
+ghost use Rattle.report.specs.Lines.{outcomeWord};
+ghost use Rattle.report.specs.Text.{reported, Confirms};
+ghost use Rattle.report.specs.Text as text;
 use deck::check_deck;
 use deck::refusal::Refusal;
 use deck::refusal::refusal_number;
@@ -18,6 +23,7 @@ use eval::entry::check_axiom_in;
 use eval::entry::eval_concept_in;
 use model::bounds::Bounds;
 use model::run::run;
+use report::report;
 use words::deck_number;
 use words::tell_judgement;
 use words::tell_summary;
@@ -108,4 +114,14 @@ pub extern "C" fn style_deck_run(
         answer,
         run(deck, bounds, last_phase, labels, edges, log, verdicts),
     )
+}
+
+// The text that the program `verify` prints for an input, at the start of `out`, and its length; 0 where `out` is too
+// short for it.
+#[no_mangle]
+pub extern "C" fn style_deck_report(input: &[u8], out: &mut [u8]) -> usize
+    ensures is { λ r. ⌜ reported r (now (out .exit)) ≡ text.report (now (input .entry)) (now (out .entry)) ⌝ }
+    ensures confirmed { λ r. ⌜ (take 9 (take r (now (out .exit))) ≡ outcomeWord Outcome.Confirmed → Confirms (now (input .entry))) ⌝ }
+{
+    report(input, out)
 }

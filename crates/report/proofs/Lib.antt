@@ -1,0 +1,5 @@
+pub mod LineSpecimens
+pub mod DecimalLaws
+pub mod WriteLaws
+pub mod LengthLaws
+pub mod TextLaws

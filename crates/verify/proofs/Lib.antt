@@ -1,3 +1,0 @@
-pub mod LineSpecimens
-pub mod DecimalLaws
-pub mod WriteLaws
