@@ -4,9 +4,9 @@
  * writes no file, and may be called from several threads at once with memory that they do not share.
  *
  * Lent memory is a pointer and a length, the length counted in items of the pointer's type and not in bytes. The caller
- * owns it before, during and after the call. For each pair the pointer is not NULL, also where the length is 0, it is
- * aligned for its type, and `length` items can be read there (and written, where it is not const). A buffer that is not
- * const overlaps no other argument. These are the only things that a caller owes: any contents are allowed.
+ * owns it before, during and after the call. The pointer is aligned for its type, and `length` items can be read there (and
+ * written, where it is not const); where the length is 0 nothing is read or written through it, and it may be NULL. A buffer
+ * that is not const overlaps no other argument. These are the only things that a caller owes: any contents are allowed.
  *
  * Each function returns 0, or the number of a refusal; then nothing was written anywhere. Else what it answers stands in
  * the first four words of `answer`, and words past the used part of any buffer are as they were. `answer` needs at least
@@ -73,8 +73,10 @@ enum style_deck_verdict {
 };
 #define STYLE_DECK_NO_WITNESS 4294967295u
 
-/* An edge is three words: role, from, to. The last two are element numbers. */
-typedef uint32_t style_deck_edge[3];
+/* An edge of a role, from one element to another. */
+typedef struct {
+    uint32_t role, from, to;
+} style_deck_edge;
 
 /* Is the deck in order?
  *
