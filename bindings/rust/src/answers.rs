@@ -211,10 +211,18 @@ impl fmt::Display for Verdict {
 pub enum Reason {
     LabelNotClosed(ClassId, RoleId),
     RunDelta(ClassId),
-    ElementsTripped { limit: u32 },
-    EdgesTripped { limit: u32 },
-    RoundsTripped { limit: u32 },
+    ElementsTripped {
+        limit: u32,
+    },
+    EdgesTripped {
+        limit: u32,
+    },
+    RoundsTripped {
+        limit: u32,
+    },
     AxiomsDropped(u32),
+    /// Three words of the log that this wrapper has no name for.
+    Unknown(u32, u32, u32),
 }
 
 impl Reason {
@@ -226,7 +234,7 @@ impl Reason {
             (3, 1, limit) => Reason::EdgesTripped { limit },
             (3, 2, limit) => Reason::RoundsTripped { limit },
             (4, dropped, _) => Reason::AxiomsDropped(dropped),
-            words => unreachable!("{words:?} is no reason of document 01"),
+            (kind, one, other) => Reason::Unknown(kind, one, other),
         }
     }
 }
@@ -237,4 +245,12 @@ pub(crate) fn reasons_of(log: &[u32], total: u32) -> Vec<Reason> {
         .take(total as usize)
         .map(Reason::of_words)
         .collect()
+}
+
+#[test]
+fn a_reason_of_a_new_kind_is_told_as_it_stands() {
+    let reasons = reasons_of(&[4, 7, 0, 5, 0, 0, 3, 9, 1], 3);
+    assert_eq!(reasons[0], Reason::AxiomsDropped(7));
+    assert_eq!(reasons[1], Reason::Unknown(5, 0, 0));
+    assert_eq!(reasons[2], Reason::Unknown(3, 9, 1));
 }

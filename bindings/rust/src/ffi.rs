@@ -9,8 +9,11 @@ use crate::structure::Structure;
 use crate::{Lent, Refusal};
 use std::thread;
 
-/// Stack that is enough for every deck: the deepest, of 16,384 nested concepts, takes about 9 MB in a run.
-pub const STACK_BYTES: usize = 16 << 20;
+/// The header's STYLE_DECK_STACK_BYTES, which says what the deepest deck takes.
+const ENOUGH_STACK: usize = 8 << 20;
+
+/// The stack of the thread on which a call works: twice what the header calls enough for every deck.
+pub const STACK_BYTES: usize = 2 * ENOUGH_STACK;
 
 extern "C" {
     fn style_deck_check(deck: *const u8, deck_length: usize) -> u32;

@@ -4,7 +4,8 @@
 //! [`check_deck`] only reads a deck; [`eval_concept`] and [`check_axiom`] ask about a [`Structure`], built or made by
 //! hand. [`run_in`] is [`run`] over memory that the caller lends.
 //!
-//! What a deck is, and what each answer means, document 01 says; `include/style_deck.h` has it in short.
+//! `docs/FORMAT.md` in the repository describes a deck word by word, and says what each answer means;
+//! `include/style_deck.h` describes the library's own functions.
 //!
 //! Judging and building go as deep as a deck's concepts nest. So that no deck can exhaust the stack of the caller, every
 //! function but [`check_deck`] works on a thread of its own with [`STACK_BYTES`] of stack, and panics if the system has

@@ -41,8 +41,12 @@ impl Structure {
         if element.0 >= self.elements {
             return Vec::new();
         }
-        let words = self.labels.iter().skip(element.0 as usize * self.width);
-        let bits = words.take(self.width).zip(0..).flat_map(|(word, at)| {
+        let Some(start) = self.width.checked_mul(element.0 as usize) else {
+            return Vec::new();
+        };
+        let words = self.labels.iter().skip(start).take(self.width);
+        // So many words have a bit for every number that a class can have.
+        let bits = words.zip(0..1 << 26).flat_map(|(word, at)| {
             let set = (0..64).filter(move |bit| word >> bit & 1 == 1);
             set.map(move |bit| ClassId(64 * at + bit))
         });

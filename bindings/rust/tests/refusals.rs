@@ -4,7 +4,7 @@ mod common;
 use common::{bytes, deck_w, Deck, AXIOMS, CLASSES, CONCEPTS, LISTS, ROLES};
 use style_deck::{
     check_axiom, check_deck, eval_concept, run, run_in, Bounds, ConceptId, Edge, Element, Lent,
-    Phase, Refusal, RoleId, Structure, Summary,
+    Phase, Refusal, RoleId, Structure, Summary, STACK_BYTES,
 };
 
 const BOUNDS: Bounds = Bounds {
@@ -136,6 +136,32 @@ fn structures() {
     assert_eq!(check_axiom(&deck, &own, 2), Err(Refusal::AbsentIndex));
     assert_eq!(eval_concept(&deck, &own, ConceptId(3), Element(0)), absent);
     assert_eq!(eval_concept(&deck, &own, ConceptId(0), Element(2)), absent);
+}
+
+/// Labels of any width, also one that no deck has.
+#[test]
+fn classes_of_a_wide_label() {
+    let widest = Structure::new(usize::MAX, vec![5, 2], 3, vec![]);
+    let classes: Vec<u32> = widest.classes(Element(0)).iter().map(|k| k.0).collect();
+    assert_eq!(classes, [0, 2, 65]);
+    assert_eq!(widest.classes(Element(2)), []);
+    assert_eq!(widest.classes(Element(3)), []);
+    let none = Structure::new(0, vec![5], 2, vec![]);
+    assert_eq!(none.classes(Element(1)), []);
+}
+
+/// The wrapper's stack is twice what the header calls enough.
+#[test]
+fn stack_of_the_header() {
+    let header = concat!(env!("CARGO_MANIFEST_DIR"), "/../../include/style_deck.h");
+    let header = std::fs::read_to_string(header).unwrap();
+    let (_, after) = header
+        .split_once("#define STYLE_DECK_STACK_BYTES (")
+        .unwrap();
+    let (product, _) = after.split_once(')').unwrap();
+    let factors = product.split('*').map(|f| f.trim().trim_end_matches('u'));
+    let bytes: usize = factors.map(|f| f.parse::<usize>().unwrap()).product();
+    assert_eq!(STACK_BYTES, 2 * bytes);
 }
 
 #[test]
