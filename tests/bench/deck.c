@@ -1,6 +1,7 @@
 // Times the check of the largest legal deck against one bare pass over its words, summed two ways:
 // sum_words of libbench_deck.a, which the compiler vectorises, and a loop in C that adds a word at a time.
 // All seven counts are at their limits, and rows, operand lists and axiom lists together name each list word once.
+// Then the same with tags in no order, and a deck of which every concept and axiom names all list words.
 #include <stdint.h>
 #include <stdio.h>
 #include <stdlib.h>
@@ -14,7 +15,15 @@ enum { N = 4096, R = 1024, INJECTED = 4096, C = 16384, A = 16384, FACTS = 16384,
 enum { ROW = 16, OPERANDS = 8, MEMBERS = 12 };
 enum { BODY = N * 3 + R * 4 + INJECTED * 3 + C * 4 + A * 4 + FACTS * 3 + L, WORDS = BODY + 18 };
 
-static uint32_t words[WORDS], lists[L], *out, used;
+static _Alignas(64) uint32_t words[WORDS];
+static uint32_t lists[L], *out, used;
+static int mixed;
+
+// What record k takes its tag by: k, or a number that jumps about.
+static uint32_t turn(uint32_t k) {
+    uint32_t jump = (k ^ k >> 7) * 2654435761u;
+    return mixed ? (jump ^ jump >> 15) * 2246822519u >> 16 : k / 2;
+}
 
 static void put4(uint32_t a, uint32_t b, uint32_t c, uint32_t d) {
     *out++ = a, *out++ = b, *out++ = c, *out++ = d;
@@ -40,10 +49,10 @@ static uint32_t list(uint32_t k, uint32_t count, uint32_t top) {
 static void concept(uint32_t k) {
     uint32_t body = k ? k * k % 7919 % k : 0, word = k % (2 * R);
     if (k % 2) {
-        put4(k % 4 == 1 ? 6 : 7, list(k, OPERANDS, k), OPERANDS, 0);
+        put4(turn(k) % 2 ? 7 : 6, list(k, OPERANDS, k), OPERANDS, 0);
         return;
     }
-    switch (k ? 2 + k / 2 % 8 : 0) {
+    switch (k ? 2 + turn(k) % 8 : 0) {
     case 0: put4(0, 0, 0, 0); break;
     case 2: put4(2, k % N, 0, 0); break;
     case 3: put4(3, k, 0, 0); break;
@@ -58,7 +67,7 @@ static void concept(uint32_t k) {
 
 static void listed_axiom(uint32_t k) {
     static const uint32_t tags[8] = {1, 2, 3, 5, 6, 7, 21, 22};
-    uint32_t tag = tags[k / 2 % 8];
+    uint32_t tag = tags[turn(k) % 8];
     uint32_t start = list(k, MEMBERS, tag < 4 ? C : tag < 8 ? 2 * R : L);
     if (tag == 3) put4(3, k % N, start, MEMBERS);
     else put4(tag, start, MEMBERS, tag == 5 ? k % (2 * R) : 0);
@@ -66,7 +75,7 @@ static void listed_axiom(uint32_t k) {
 
 static void plain_axiom(uint32_t k) {
     static const uint32_t tags[18] = {0, 4, 8, 9, 10, 11, 12, 13, 14, 15, 16, 17, 18, 19, 20, 23, 24, 25};
-    uint32_t tag = tags[k / 2 % 18], word = k % (2 * R), concept = k % C;
+    uint32_t tag = tags[turn(k) % 18], word = k % (2 * R), concept = k % C;
     switch (tag) {
     case 0: put4(0, concept, C - 1 - concept, 0); break;
     case 4: case 8: put4(tag, word, 2 * R - 1 - word, 0); break;
@@ -80,10 +89,10 @@ static void plain_axiom(uint32_t k) {
     }
 }
 
-static void trailer(void) {
-    static const uint32_t counts[7] = {N, R, INJECTED, C, A, FACTS, L}, widths[7] = {3, 4, 3, 4, 4, 3, 1};
+static void trailer(const uint32_t counts[7]) {
+    static const uint32_t widths[7] = {3, 4, 3, 4, 4, 3, 1};
     uint32_t start = 0;
-    put3(1, N, 0);
+    put3(1, counts[0], 0);
     for (int p = 0; p < 7; p++) {
         *out++ = counts[p], *out++ = start;
         start += counts[p] * widths[p];
@@ -92,7 +101,8 @@ static void trailer(void) {
 }
 
 static void make_deck(void) {
-    out = words;
+    static const uint32_t counts[7] = {N, R, INJECTED, C, A, FACTS, L};
+    out = words, used = 0;
     for (uint32_t k = 0; k < N; k++) put3(0, row(k, N), ROW);
     for (uint32_t k = 0; k < R; k++) {
         uint32_t subs = row(k, R);
@@ -104,8 +114,22 @@ static void make_deck(void) {
     for (uint32_t k = 0; k < FACTS; k++) put3(k % N, k % R, k * 7 % N);
     if (used != L) exit(2);
     for (uint32_t k = 0; k < L; k++) *out++ = lists[k];
-    trailer();
+    trailer(counts);
     if (out != words + WORDS) exit(2);
+}
+
+// One class and one role; concept 0 is Top, and 32,767 Ands and EquivalentClasses each name all list words, which are 0. Answers
+// the deck's bytes.
+static size_t make_overlapping(void) {
+    static const uint32_t counts[7] = {1, 1, 0, C, A, 0, L};
+    out = words;
+    put3(0, 0, 1);
+    put4(0, 1, 0, 0);
+    for (uint32_t k = 0; k < C; k++) put4(k ? 6 : 0, 0, k ? L : 0, 0);
+    for (uint32_t k = 0; k < A; k++) put4(1, 0, L, 0);
+    for (uint32_t k = 0; k < L; k++) *out++ = 0;
+    trailer(counts);
+    return (size_t)(out - words) * 4;
 }
 
 __attribute__((noinline, optimize("no-tree-vectorize"))) static uint32_t sum_plain(const uint32_t *word, size_t count) {
@@ -122,12 +146,23 @@ static double now(void) {
 
 static double least(double a, double b) { return a < b ? a : b; }
 
+// The least time of a check, of so many turns; answer collects what it says.
+static double check_least(size_t bytes, int turns, uint32_t *answer) {
+    double found = 1e12;
+    while (turns-- > 0) {
+        double a = now();
+        *answer |= check_deck_number((const uint8_t *)words, bytes);
+        found = least(found, now() - a);
+    }
+    return found;
+}
+
 int main(void) {
     make_deck();
     const uint8_t *deck = (const uint8_t *)words;
     uint32_t answer = 0, sum = 0, plain_sum = 0;
     double check = 1e12, vector = 1e12, plain = 1e12;
-    for (int turn = 0; turn < 500; turn++) {
+    for (int k = 0; k < 500; k++) {
         double a = now();
         answer |= check_deck_number(deck, sizeof words);
         double b = now();
@@ -141,5 +176,9 @@ int main(void) {
     printf("check              %7.1f us\n", check);
     printf("sum, vectorised    %7.1f us, ratio %.2f\n", vector, check / vector);
     printf("sum, word by word  %7.1f us, ratio %.2f\n", plain, check / plain);
+    mixed = 1;
+    make_deck();
+    printf("check, tags mixed  %7.1f us\n", check_least(sizeof words, 500, &answer));
+    printf("check, overlapping lists %.2f s\n", check_least(make_overlapping(), 1, &answer) / 1e6);
     return answer != 0 || sum != plain_sum;
 }
