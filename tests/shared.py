@@ -19,7 +19,9 @@ def padded(data):
 def finish(crate, given, wanted, said):
     """Writes a program's stdin and stdout, and prints what is said of them; with --check, compares them instead."""
     files = ((CRATES / crate / 'stdin', given), (CRATES / crate / 'stdout', wanted))
-    if '--check' in sys.argv[1:]:
+    if sys.argv[1:] not in ([], ['--check']):
+        sys.exit('%s [--check]' % sys.argv[0])
+    if sys.argv[1:] == ['--check']:
         stale = [path.name for path, data in files if not path.exists() or path.read_bytes() != data]
         print('stale: ' + ' '.join(stale) if stale else 'up to date')
         sys.exit(1 if stale else 0)
