@@ -2,7 +2,7 @@
 // with a string for each concept and in it a character for each element (f, t, or the tag of an
 // unresolved construct to base 36); then a line for each axiom, its number and the words of its
 // verdict.
-use crate::numbers::number_at;
+use cases::numbers::number_at;
 use deck::refusal::Refusal;
 use eval::entry::AxiomAnswer;
 use eval::entry::ConceptAnswer;

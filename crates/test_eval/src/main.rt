@@ -1,27 +1,21 @@
 // Reads decks and structures from standard input, judges the concepts and axioms that are asked
 // for, and prints the answers. tests/make_judgements.py writes the input, and what must be printed.
 //
-// The input is numbers, as numbers.rt reads them. A case is: the length of its name and the name's
+// The input is short numbers (cases::numbers). A case is: the length of its name and the name's
 // bytes; the deck's length in bytes and its words; the number of label words lent, the number of
 // runs, and the runs; the number of elements; the number of edges lent, and the edges; the number of
 // edges used; then what is asked, as answers.rt reads it. Deck, labels and edges are lent at exactly
 // the lengths that the case says. Input of any other form ends the program.
 mod answers;
-mod cases;
-mod numbers;
+mod lent;
 
-use cases::Case;
+use cases::numbers::number_at;
+use cases::words::part;
+use lent::Case;
 use libc::STDOUT_FILENO;
-use numbers::number_at;
 ghost use mathlib.Core.Path.{_≡_};
 ghost use Prim.Native.Nat.{_≤_};
 ghost use lib.ListN.{length};
-
-fn first_bytes(bytes: &[u8], count: usize) -> &[u8]
-    requires { ⌜ count ≤ length (now bytes) ⌝ }
-{
-    &bytes[0..count]
-}
 
 fn first_labels(labels: &[u64], count: usize) -> &[u64]
     requires { ⌜ count ≤ length (now labels) ⌝ }
@@ -50,7 +44,7 @@ fn ask(data: &[u8], case: Case, deck: &[u8], labels: &[u64], edges: &[[u32; 3]])
     answers::answer(
         data,
         case.next,
-        first_bytes(deck, case.deck),
+        part(deck, 0, case.deck),
         first_labels(labels, case.labels),
         case.elements,
         first_edges(edges, case.edges),
@@ -61,16 +55,12 @@ fn ask(data: &[u8], case: Case, deck: &[u8], labels: &[u64], edges: &[[u32; 3]])
 // Prints the name at place `at` of the data. Answers the place after it, or 0 if it is malformed.
 fn print_name(data: &[u8], at: usize) -> usize {
     let name = number_at(data, at);
-    let size = name.value as usize;
     let start = name.next;
     if start > data.len() {
         return 0;
     }
-    if size > data.len() - start {
-        return 0;
-    }
-    let end = start + size;
-    io::write_all(STDOUT_FILENO, &data[start..end]);
+    let end = start + name.value as usize;
+    io::write_all(STDOUT_FILENO, part(data, start, end));
     end
 }
 
@@ -86,7 +76,7 @@ fn run_one(
     if end <= at {
         return 0;
     }
-    let case = cases::expand(data, end, deck, labels, edges);
+    let case = lent::expand(data, end, deck, labels, edges);
     ask(data, case, deck, labels, edges)
 }
 

@@ -1,6 +1,6 @@
 // What a run answers, held to the words of the data, one after the other.
-use crate::data::after;
-use crate::data::word_or_0;
+use cases::words::after;
+use cases::words::word_or_0;
 use eval::entry::ConceptAnswer;
 use eval::entry::eval_concept_in;
 use eval::judgement::Judgement;

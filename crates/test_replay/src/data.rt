@@ -1,31 +1,7 @@
-// The data, in words of four bytes, low byte first. Places are counted in words.
+// The data, in words (cases::words). Places are counted in words.
+use cases::words::after;
+use cases::words::word_or_0;
 use model::bounds::Bounds;
-ghost use Prim.Native.Nat.{_≤_};
-
-// The largest place.
-pub const MOST: usize = 1000000;
-
-// Word `at` of `data`, or 0 past its end.
-pub fn word_or_0(data: &[u8], at: usize) -> u32 {
-    if at < data.len() / 4 {
-        deck::words::word(data, at)
-    } else {
-        0
-    }
-}
-
-// The place `count` words after `at`, or the largest.
-pub fn after(at: usize, count: usize) -> usize
-    ensures { λ r. ⌜ r ≤ 1000000 ⌝ }
-{
-    if at > MOST {
-        return MOST;
-    }
-    if count > MOST - at {
-        return MOST;
-    }
-    at + count
-}
 
 // What a case begins with: its length and its deck's in words; how many words of labels and of verdicts the run
 // leaves, and how many concepts the deck has; the bounds and the last phase.

@@ -7,13 +7,14 @@
 mod compared;
 mod data;
 
+use cases::words::MOST;
+use cases::words::after;
+use cases::words::part;
 use compared::Compared;
 use compared::differing;
 use compared::expect;
 use data::ASKED;
 use data::Asked;
-use data::MOST;
-use data::after;
 use libc::STDOUT_FILENO;
 use model::outcome::Outcome;
 use model::run::RunAnswer;
@@ -122,7 +123,7 @@ fn replay_one(
         words: c.words,
         differences: c.differences,
     };
-    let deck = &data[deck_start..deck_end];
+    let deck = part(data, deck_start, deck_end);
     let done = expect_run(data, begun, asked, deck, labels, edges, log, verdicts);
     if done.at == end {
         return done;

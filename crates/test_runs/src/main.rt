@@ -8,12 +8,13 @@
 //
 // Printed are: the name and the answer; a line for each buffer, its words from the first to the last
 // that was written in a row; and `untouched`, or how many words after these were written.
-mod cases;
+mod asked;
 mod marks;
 
-use cases::Asked;
-use cases::MOST;
-use cases::word_or_0;
+use asked::Asked;
+use cases::words::MOST;
+use cases::words::part;
+use cases::words::word_or_0;
 use libc::STDOUT_FILENO;
 use model::outcome::Outcome;
 use model::run::RunAnswer;
@@ -147,7 +148,7 @@ fn run_one(
     }
     let name_length = word_or_0(data, at) as usize;
     let deck_length = word_or_0(data, at + 1) as usize;
-    let asked = cases::asked_at(data, at + 2);
+    let asked = asked::asked_at(data, at + 2);
     let name_start = (at + 10) * 4;
     let name_end = name_start + name_length;
     let deck_start = (at + 10 + (name_length + 3) / 4) * 4;
@@ -155,9 +156,9 @@ fn run_one(
     if name_end > data.len() || deck_end > data.len() {
         return 0;
     }
-    io::write_all(STDOUT_FILENO, &data[name_start..name_end]);
+    io::write_all(STDOUT_FILENO, part(data, name_start, name_end));
     if !run_asked(
-        &data[deck_start..deck_end],
+        part(data, deck_start, deck_end),
         asked,
         labels,
         edges,

@@ -1,10 +1,10 @@
--- `test_deck::runs::stepped` is safe and ends. Assumes nothing.
+-- `cases::decks::stepped` is safe and ends. Assumes nothing.
 use mathlib.Core.Path.{_≡_}
 use Prim.Native.Nat.{_-_, _≤_}
 use lib.ListN.{length}
 use borrow.Author.Needs.{needs}
-use Rattle.test_deck.proofs.runs.stepped.Statement.{statement}
-use Rattle.test_deck.proofs.runs.stepped.Tie as tie
+use Rattle.cases.proofs.decks.stepped.Statement.{statement}
+use Rattle.cases.proofs.decks.stepped.Tie as tie
 
 abbrev Inv-loop : tie.InvT-loop
 Inv-loop «data» read room₀ made count width i₀ due₀ room i due = (i ≤ count) × (due ≤ width) × (length room ≡ length room₀)
@@ -24,8 +24,8 @@ sub-word-or-0 c = search needs
 word-or-0-requires : tie.Need-word-or-0-requires Inv-loop μ-loop
 word-or-0-requires c κs = search needs
 
-add-put : tie.Need-add-put Inv-loop μ-loop
-add-put c = search needs
+add-put-word : tie.Need-add-put-word Inv-loop μ-loop
+add-put-word c = search needs
 
 add-word-or-0-2 : tie.Need-add-word-or-0-2 Inv-loop μ-loop
 add-word-or-0-2 c = search needs
@@ -36,8 +36,8 @@ word-or-0-requires-2 c κs = search needs
 wrapping-add-u32-requires : tie.Need-wrapping-add-u32-requires Inv-loop μ-loop
 wrapping-add-u32-requires c κs = search needs
 
-put-requires : tie.Need-put-requires Inv-loop μ-loop
-put-requires c κs = search needs
+put-word-requires : tie.Need-put-word-requires Inv-loop μ-loop
+put-word-requires c κs = search needs
 
 next-due-requires : tie.Need-next-due-requires Inv-loop μ-loop
 next-due-requires c κs = search needs
@@ -67,11 +67,11 @@ stepped-spec =
     add-word-or-0
     sub-word-or-0
     word-or-0-requires
-    add-put
+    add-put-word
     add-word-or-0-2
     word-or-0-requires-2
     wrapping-add-u32-requires
-    put-requires
+    put-word-requires
     next-due-requires
     add-i
     loop-less

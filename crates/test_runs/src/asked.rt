@@ -1,9 +1,7 @@
-// The case at a place of the input (main.rt has its form). Places are counted in words.
+// What a case asks for (main.rt has its form). Places are counted in words.
+use cases::words::word_or_0;
 use model::bounds::Bounds;
 ghost use Prim.Native.Nat.{_≤_};
-
-// The largest place and the largest length that a case may have.
-pub const MOST: usize = 1000000;
 
 // What is asked of a run: its bounds, its last phase, and how much memory it is lent.
 pub struct Asked {
@@ -13,15 +11,6 @@ pub struct Asked {
     pub edges: usize,
     pub log: usize,
     pub verdicts: usize,
-}
-
-// Word `at` of `data`, or 0 past its end.
-pub fn word_or_0(data: &[u8], at: usize) -> u32 {
-    if at < data.len() / 4 {
-        deck::words::word(data, at)
-    } else {
-        0
-    }
 }
 
 // What the eight words from `at` on ask.

@@ -1,10 +1,10 @@
--- `test_eval::cases::deck_words` is safe and ends. Assumes nothing.
+-- `test_eval::lent::deck_words` is safe and ends. Assumes nothing.
 use mathlib.Core.Path.{_≡_}
 use Prim.Native.Nat.{_-_, _≤_}
 use lib.ListN.{length}
 use borrow.Author.Needs.{needs}
-use Rattle.test_eval.proofs.cases.deck_words.Statement.{statement}
-use Rattle.test_eval.proofs.cases.deck_words.Tie as tie
+use Rattle.test_eval.proofs.lent.deck_words.Statement.{statement}
+use Rattle.test_eval.proofs.lent.deck_words.Tie as tie
 
 abbrev Inv-loop : tie.InvT-loop
 Inv-loop «data» at deck₀ count next₀ i₀ deck next i = (i ≤ count) × (length deck ≡ length deck₀)

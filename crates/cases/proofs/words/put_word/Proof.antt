@@ -1,9 +1,9 @@
--- `test_deck::runs::put` is safe: stores keep the length. Assumes nothing.
+-- `cases::words::put_word` is safe: stores keep the length. Assumes nothing.
 use borrow.Author.Needs.{needs}
 use native.Mathlib.Omega.{arith}
 use lib.ListN.{length-set}
-use Rattle.test_deck.proofs.runs.put.Statement.{statement}
-use Rattle.test_deck.proofs.runs.put.Tie as tie
+use Rattle.cases.proofs.words.put_word.Statement.{statement}
+use Rattle.cases.proofs.words.put_word.Tie as tie
 
 low-byte-requires : tie.Need-low-byte-requires
 low-byte-requires c κs = search needs
@@ -59,8 +59,8 @@ returns c = search needs
 returns-2 : tie.Need-returns-2
 returns-2 c = search needs
 
-pub put-spec : {M : Type 1} → statement M
-put-spec =
+pub put-word-spec : {M : Type 1} → statement M
+put-word-spec =
     tie.close
     (tie.spec
     low-byte-requires

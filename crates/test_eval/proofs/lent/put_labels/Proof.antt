@@ -1,9 +1,9 @@
--- `test_eval::cases::put_labels` is safe and ends. Assumes nothing.
+-- `test_eval::lent::put_labels` is safe and ends. Assumes nothing.
 use mathlib.Core.Path.{_≡_}
 use lib.ListN.{length}
 use borrow.Author.Needs.{needs}
-use Rattle.test_eval.proofs.cases.put_labels.Statement.{statement}
-use Rattle.test_eval.proofs.cases.put_labels.Tie as tie
+use Rattle.test_eval.proofs.lent.put_labels.Statement.{statement}
+use Rattle.test_eval.proofs.lent.put_labels.Tie as tie
 
 abbrev Inv-loop : tie.InvT-loop
 Inv-loop labels₀ from count word at₀ left₀ labels at left = length labels ≡ length labels₀

@@ -1,6 +1,7 @@
 // Expands a case into the memory that is lent (main.rt has the case's form). Words past the end of
 // that memory are left out.
-use crate::numbers::number_at;
+use cases::numbers::number_at;
+use cases::words::put_word;
 
 // The lengths that the case says, and the place after what was expanded.
 pub struct Case {
@@ -10,20 +11,6 @@ pub struct Case {
     pub edges: usize,
     pub edge_count: u32,
     pub next: usize,
-}
-
-fn low_byte(word: u32) -> u8 {
-    (word % 256) as u8
-}
-
-// Writes word `at` of the deck.
-fn put_word(deck: &mut [u8], at: usize, word: u32) {
-    if at < deck.len() / 4 {
-        deck[at * 4] = low_byte(word);
-        deck[at * 4 + 1] = low_byte(word / 256);
-        deck[at * 4 + 2] = low_byte(word / 65536);
-        deck[at * 4 + 3] = low_byte(word / 16777216);
-    }
 }
 
 // Expands the words of the deck. Answers the place after them.

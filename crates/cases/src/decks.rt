@@ -1,41 +1,21 @@
-// Expands the runs of a deck (main.rt has their form). Places are counted in words.
+// A deck with a name. It is: the name's length and the deck's length in bytes, the number of runs, the name padded to whole
+// words, the runs. A run is a count, a width, and, for width 0, `count` words of the deck as they stand; for a width of 1 to
+// 4, that many steps, where word i of the run's `count` words is the deck's word `width` words before it plus step i mod width.
+// The deck is what the runs made, cut to its length. tests/make_decks.py writes the form.
+use crate::words::MOST;
+use crate::words::put_word;
+use crate::words::word_or_0;
 ghost use Prim.Native.Nat.{_<_, _≤_};
 
-// The largest place in the input and in a deck.
-pub const MOST: usize = 1000000;
-
-// Where reading and making have got to.
-pub struct Place {
-    pub read: usize,
-    pub made: usize,
+// Where reading and making have got to, in words.
+struct Place {
+    read: usize,
+    made: usize,
 }
 
-pub enum Step {
+enum Step {
     Made(Place),
-    Malformed,
-}
-
-// Word `at` of `data`, or 0 past its end.
-pub fn word_or_0(data: &[u8], at: usize) -> u32 {
-    if at < data.len() / 4 {
-        deck::words::word(data, at)
-    } else {
-        0
-    }
-}
-
-fn low_byte(word: u32) -> u8 {
-    (word % 256) as u8
-}
-
-// Writes a word into `room`, or nothing past its end.
-fn put(room: &mut [u8], at: usize, word: u32) {
-    if at < room.len() / 4 {
-        room[at * 4] = low_byte(word);
-        room[at * 4 + 1] = low_byte(word / 256);
-        room[at * 4 + 2] = low_byte(word / 65536);
-        room[at * 4 + 3] = low_byte(word / 16777216);
-    }
+    Stuck,
 }
 
 // Copies `count` words.
@@ -44,7 +24,7 @@ fn plain(data: &[u8], read: usize, room: &mut [u8], made: usize, count: usize)
 {
     let mut i = 0;
     while i < count {
-        put(room, made + i, word_or_0(data, read + i));
+        put_word(room, made + i, word_or_0(data, read + i));
         i += 1;
     }
 }
@@ -69,7 +49,7 @@ fn stepped(data: &[u8], read: usize, room: &mut [u8], made: usize, count: usize,
     let mut due = 0;
     while i < count {
         let before = word_or_0(room, made + i - width);
-        put(
+        put_word(
             room,
             made + i,
             std::num::wrapping_add_u32(before, word_or_0(data, read + due)),
@@ -84,12 +64,12 @@ fn run(data: &[u8], room: &mut [u8], place: Place) -> Step {
     let read = place.read;
     let made = place.made;
     if read > MOST - 2 || made > MOST {
-        return Step::Malformed;
+        return Step::Stuck;
     }
     let count = word_or_0(data, read) as usize;
     let width = word_or_0(data, read + 1) as usize;
     if count > MOST - made || width > 4 || width > made {
-        return Step::Malformed;
+        return Step::Stuck;
     }
     if width == 0 {
         plain(data, read + 2, room, made, count);
@@ -107,16 +87,55 @@ fn run(data: &[u8], room: &mut [u8], place: Place) -> Step {
 }
 
 // Expands `count` runs from word `at` of the data on.
-pub fn expand(data: &[u8], at: usize, count: u32, room: &mut [u8]) -> Step {
+fn expand(data: &[u8], at: usize, count: u32, room: &mut [u8]) -> Step {
     let mut place = Place { read: at, made: 0 };
     let mut left = count;
     while left > 0 {
         let step = run(data, room, place);
         let Step::Made(next) = step else {
-            return Step::Malformed;
+            return Step::Stuck;
         };
         place = next;
         left -= 1;
     }
     Step::Made(place)
+}
+
+// Where the name's bytes stand in the data, the deck's length, and the word after it all.
+pub struct Case {
+    pub name: usize,
+    pub name_end: usize,
+    pub length: usize,
+    pub next: usize,
+}
+
+pub enum Read {
+    Found(Case),
+    Malformed,
+}
+
+// The deck at word `at` of the data, made at the start of `room`.
+pub fn deck_at(data: &[u8], at: usize, room: &mut [u8]) -> Read {
+    let name_length = word_or_0(data, at) as usize;
+    if at > MOST || name_length > 40 {
+        return Read::Malformed;
+    }
+    let length = word_or_0(data, at + 1) as usize;
+    let count = word_or_0(data, at + 2);
+    let runs = at + 3 + (name_length + 3) / 4;
+    let step = expand(data, runs, count, room);
+    let Step::Made(place) = step else {
+        return Read::Malformed;
+    };
+    let read = place.read;
+    let made = place.made;
+    if read > data.len() / 4 || (length + 3) / 4 > made || length > room.len() {
+        return Read::Malformed;
+    }
+    Read::Found(Case {
+        name: (at + 3) * 4,
+        name_end: (at + 3) * 4 + name_length,
+        length: length,
+        next: read,
+    })
 }

@@ -1,10 +1,10 @@
--- `test_deck::runs::plain` is safe and ends. Assumes nothing.
+-- `cases::decks::plain` is safe and ends. Assumes nothing.
 use mathlib.Core.Path.{_≡_}
 use Prim.Native.Nat.{_-_, _≤_}
 use lib.ListN.{length}
 use borrow.Author.Needs.{needs}
-use Rattle.test_deck.proofs.runs.plain.Statement.{statement}
-use Rattle.test_deck.proofs.runs.plain.Tie as tie
+use Rattle.cases.proofs.decks.plain.Statement.{statement}
+use Rattle.cases.proofs.decks.plain.Tie as tie
 
 abbrev Inv-loop : tie.InvT-loop
 Inv-loop «data» read room₀ made count i₀ room i = (i ≤ count) × (length room ≡ length room₀)
@@ -15,8 +15,8 @@ abbrev μ-loop : tie.MeasureT-loop
 loop-holds : tie.Need-loop-holds Inv-loop μ-loop
 loop-holds c = search needs
 
-add-put : tie.Need-add-put Inv-loop μ-loop
-add-put c = search needs
+add-put-word : tie.Need-add-put-word Inv-loop μ-loop
+add-put-word c = search needs
 
 add-word-or-0 : tie.Need-add-word-or-0 Inv-loop μ-loop
 add-word-or-0 c = search needs
@@ -24,8 +24,8 @@ add-word-or-0 c = search needs
 word-or-0-requires : tie.Need-word-or-0-requires Inv-loop μ-loop
 word-or-0-requires c κs = search needs
 
-put-requires : tie.Need-put-requires Inv-loop μ-loop
-put-requires c κs = search needs
+put-word-requires : tie.Need-put-word-requires Inv-loop μ-loop
+put-word-requires c κs = search needs
 
 add-i : tie.Need-add-i Inv-loop μ-loop
 add-i c = search needs
@@ -49,10 +49,10 @@ plain-spec =
     Inv-loop
     μ-loop
     loop-holds
-    add-put
+    add-put-word
     add-word-or-0
     word-or-0-requires
-    put-requires
+    put-word-requires
     add-i
     loop-less
     loop-again

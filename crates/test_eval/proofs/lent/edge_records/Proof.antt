@@ -1,15 +1,16 @@
--- `test_eval::cases::label_runs` is safe and ends. Assumes nothing.
+-- `test_eval::lent::edge_records` is safe and ends. Assumes nothing.
 use mathlib.Core.Path.{_≡_}
+use Prim.Native.Nat.{_-_, _≤_}
 use lib.ListN.{length}
 use borrow.Author.Needs.{needs}
-use Rattle.test_eval.proofs.cases.label_runs.Statement.{statement}
-use Rattle.test_eval.proofs.cases.label_runs.Tie as tie
+use Rattle.test_eval.proofs.lent.edge_records.Statement.{statement}
+use Rattle.test_eval.proofs.lent.edge_records.Tie as tie
 
 abbrev Inv-loop : tie.InvT-loop
-Inv-loop «data» at labels₀ runs next₀ made₀ left₀ labels next made left = length labels ≡ length labels₀
+Inv-loop «data» at edges₀ count next₀ i₀ edges next i = (i ≤ count) × (length edges ≡ length edges₀)
 
 abbrev μ-loop : tie.MeasureT-loop
-μ-loop «data» at labels₀ runs next₀ made₀ left₀ labels next made left = left
+μ-loop «data» at edges₀ count next₀ i₀ edges next i = count - i
 
 loop-holds : tie.Need-loop-holds Inv-loop μ-loop
 loop-holds c = search needs
@@ -23,14 +24,11 @@ number-at-requires-2 c κs = search needs
 number-at-requires-3 : tie.Need-number-at-requires-3 Inv-loop μ-loop
 number-at-requires-3 c κs = search needs
 
-joined-requires : tie.Need-joined-requires Inv-loop μ-loop
-joined-requires c κs = search needs
+put-edge-requires : tie.Need-put-edge-requires Inv-loop μ-loop
+put-edge-requires c κs = search needs
 
-put-labels-requires : tie.Need-put-labels-requires Inv-loop μ-loop
-put-labels-requires c κs = search needs
-
-sub-left : tie.Need-sub-left Inv-loop μ-loop
-sub-left c = search needs
+add-i : tie.Need-add-i Inv-loop μ-loop
+add-i c = search needs
 
 loop-less : tie.Need-loop-less Inv-loop μ-loop
 loop-less c = search needs
@@ -44,8 +42,8 @@ same-length c = search needs
 returns : tie.Need-returns Inv-loop μ-loop
 returns c = search needs
 
-pub label-runs-spec : {M : Type 1} → statement M
-label-runs-spec =
+pub edge-records-spec : {M : Type 1} → statement M
+edge-records-spec =
     tie.close
     (tie.spec
     Inv-loop
@@ -54,9 +52,8 @@ label-runs-spec =
     number-at-requires
     number-at-requires-2
     number-at-requires-3
-    joined-requires
-    put-labels-requires
-    sub-left
+    put-edge-requires
+    add-i
     loop-less
     loop-again
     same-length

@@ -1,9 +1,9 @@
--- `test_deck::runs::expand` is safe and ends. Assumes nothing.
+-- `cases::decks::expand` is safe and ends. Assumes nothing.
 use mathlib.Core.Path.{_≡_}
 use lib.ListN.{length}
 use borrow.Author.Needs.{needs}
-use Rattle.test_deck.proofs.runs.expand.Statement.{statement}
-use Rattle.test_deck.proofs.runs.expand.Tie as tie
+use Rattle.cases.proofs.decks.expand.Statement.{statement}
+use Rattle.cases.proofs.decks.expand.Tie as tie
 
 abbrev Inv-loop : tie.InvT-loop
 Inv-loop «data» at count room₀ place₀ left₀ room place left = length room ≡ length room₀
