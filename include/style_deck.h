@@ -8,9 +8,9 @@
  * written, where it is not const); where the length is 0 nothing is read or written through it, and it may be NULL. A buffer
  * that is not const overlaps no other argument. These are the only things that a caller owes: any contents are allowed.
  *
- * Each function returns 0, or the number of a refusal; then nothing was written anywhere. Else what it answers stands in
- * the first four words of `answer`, and words past the used part of any buffer are as they were. `answer` needs at least
- * STYLE_DECK_ANSWER_WORDS words: a shorter one is refused as 9, before anything else is looked at.
+ * Each function but style_deck_report returns 0, or the number of a refusal; then nothing was written anywhere. Else what it
+ * answers stands in the first four words of `answer`, and words past the used part of any buffer are as they were. `answer`
+ * needs at least STYLE_DECK_ANSWER_WORDS words: a shorter one is refused as 9, before anything else is looked at.
  *
  * Stack: a call goes as deep as the deck's concepts nest, at most 16,384 levels. The deepest deck takes less than 7 MB in a
  * run; STYLE_DECK_STACK_BYTES are enough for every deck. A program that is handed decks by others makes its calls on a thread
@@ -28,6 +28,9 @@ extern "C" {
 
 /* The least length of `answer`, in words. */
 #define STYLE_DECK_ANSWER_WORDS 4u
+
+/* Bytes that are enough for every text of style_deck_report. */
+#define STYLE_DECK_REPORT_BYTES 204864u
 
 /* Stack that is enough for every call. */
 #define STYLE_DECK_STACK_BYTES (8u * 1024 * 1024)
@@ -149,6 +152,16 @@ uint32_t style_deck_run(const uint8_t *deck, size_t deck_length,
                         uint32_t *log, size_t log_length,
                         uint32_t *verdicts, size_t verdicts_length,
                         uint32_t *answer, size_t answer_length);
+
+/* The text that the program `verify` prints for an input: a refusal's line, or the outcome and a line for each axiom.
+ *
+ *   input, input_length   any bytes; more than 65,536 are refused in the text, as the program refuses them
+ *   out                   for the text; STYLE_DECK_REPORT_BYTES are always enough
+ *
+ * Returns the length of the text, which stands at the start of `out`; the bytes past it are as they were. No text is empty: 0 is
+ * returned where `out` is too short, and then nothing was written. The text has no byte 0 at its end; its last is a newline.
+ */
+size_t style_deck_report(const uint8_t *input, size_t input_length, uint8_t *out, size_t out_length);
 
 #ifdef __cplusplus
 }

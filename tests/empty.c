@@ -74,11 +74,21 @@ static void runs(void) {
     expect("the edge as it was", 9, edges[0].to);
 }
 
+static void reports(void) {
+    uint8_t out[16];
+    memset(out, 'x', sizeof out);
+    expect("text without room", 0, (uint32_t)style_deck_report(nothing, 72, NULL, 0));
+    expect("text of no bytes", 10, (uint32_t)style_deck_report(NULL, 0, out, sizeof out));
+    expect("its bytes", 0, (uint32_t)memcmp(out, "refused 1\nxxxxxx", sizeof out));
+    expect("no text, no room", 0, (uint32_t)style_deck_report(NULL, 0, NULL, 0));
+}
+
 int main(void) {
     make_declared();
     decks();
     answers();
     structures();
     runs();
+    reports();
     return bad;
 }

@@ -15,6 +15,9 @@ const ENOUGH_STACK: usize = 8 << 20;
 /// The stack of the thread on which a call works: twice what the header calls enough for every deck.
 pub const STACK_BYTES: usize = 2 * ENOUGH_STACK;
 
+/// The header's STYLE_DECK_REPORT_BYTES: enough for every text.
+pub const REPORT_BYTES: usize = 204_864;
+
 extern "C" {
     fn style_deck_check(deck: *const u8, deck_length: usize) -> u32;
 
@@ -65,13 +68,20 @@ extern "C" {
         answer: *mut u32,
         answer_length: usize,
     ) -> u32;
+
+    fn style_deck_report(
+        input: *const u8,
+        input_length: usize,
+        out: *mut u8,
+        out_length: usize,
+    ) -> usize;
 }
 
 // An edge is three words, as the library takes it.
 const _: () = assert!(size_of::<Edge>() == 12 && align_of::<Edge>() == align_of::<u32>());
 
 /// Calls on a thread with stack enough. A caller's own could end: by default a thread has 2 MB.
-fn on_own_stack(call: impl FnOnce() -> u32 + Send) -> u32 {
+fn on_own_stack<T: Send>(call: impl FnOnce() -> T + Send) -> T {
     thread::scope(|scope| {
         thread::Builder::new()
             .name("style_deck".into())
@@ -163,5 +173,13 @@ pub fn run(
             answer.as_mut_ptr(),
             answer.len(),
         )
+    })
+}
+
+/// The length of the text, or 0 where `out` is too short for it.
+pub fn report(input: &[u8], out: &mut [u8]) -> usize {
+    // SAFETY: both slices are lent whole, and `out` is borrowed alone.
+    on_own_stack(|| unsafe {
+        style_deck_report(input.as_ptr(), input.len(), out.as_mut_ptr(), out.len())
     })
 }

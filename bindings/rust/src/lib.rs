@@ -2,7 +2,7 @@
 //!
 //! [`run`] takes a deck from its bytes to an outcome, with the structure that was built and a verdict for every axiom.
 //! [`check_deck`] only reads a deck; [`eval_concept`] and [`check_axiom`] ask about a [`Structure`], built or made by
-//! hand. [`run_in`] is [`run`] over memory that the caller lends.
+//! hand. [`run_in`] is [`run`] over memory that the caller lends. [`report`] is the text of the program `verify`.
 //!
 //! `docs/FORMAT.md` in the repository describes a deck word by word, and says what each answer means;
 //! `include/style_deck.h` describes the library's own functions.
@@ -16,13 +16,11 @@
 mod answers;
 mod ffi;
 mod numbers;
-mod report;
 mod structure;
 
 pub use answers::{Judgement, Outcome, Reason, Refusal, Unhandled, Verdict};
-pub use ffi::STACK_BYTES;
+pub use ffi::{REPORT_BYTES, STACK_BYTES};
 pub use numbers::{Bounds, ClassId, ConceptId, Edge, Element, Phase, RoleId};
-pub use report::report;
 pub use structure::Structure;
 
 use answers::reasons_of;
@@ -129,6 +127,30 @@ pub fn run_in(
         edges,
         reasons,
     })
+}
+
+/// The text that the program `verify` prints for an input, with the program's bounds and its limits: at most 65,536 bytes and
+/// 256 classes.
+///
+/// # Panics
+/// If the system gives no thread.
+pub fn report(input: &[u8]) -> String {
+    let mut out = vec![0; REPORT_BYTES];
+    let length = report_in(input, &mut out).expect("the library is proved to need no more");
+    out.truncate(length);
+    String::from_utf8(out).expect("a text is ASCII")
+}
+
+/// [`report`] into lent memory: the length of the text, which stands at the start of `out`, and the rest is as it was; or
+/// none where `out` is too short for the text, and then all of it is.
+///
+/// # Panics
+/// If the system gives no thread.
+pub fn report_in(input: &[u8], out: &mut [u8]) -> Option<usize> {
+    match ffi::report(input, out) {
+        0 => None,
+        length => Some(length),
+    }
 }
 
 /// Is the element in the concept, in that structure?

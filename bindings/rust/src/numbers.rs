@@ -72,10 +72,6 @@ impl Counts {
         }
     }
 
-    pub fn axioms(&self) -> usize {
-        self.axioms as usize
-    }
-
     /// Words of a label.
     pub fn width(&self) -> usize {
         self.classes.div_ceil(64) as usize
@@ -95,7 +91,7 @@ impl Counts {
         Some(Room {
             labels: elements * self.width(),
             edges: max_edges as usize + 1,
-            verdicts: 4 * self.axioms(),
+            verdicts: 4 * self.axioms as usize,
         })
     }
 }

@@ -4,7 +4,7 @@ mod common;
 use common::{bytes, deck_w, Deck, AXIOMS, CLASSES, CONCEPTS, LISTS, ROLES};
 use style_deck::{
     check_axiom, check_deck, eval_concept, run, run_in, Bounds, ConceptId, Edge, Element, Lent,
-    Phase, Refusal, RoleId, Structure, Summary, STACK_BYTES,
+    Phase, Refusal, RoleId, Structure, Summary, REPORT_BYTES, STACK_BYTES,
 };
 
 const BOUNDS: Bounds = Bounds {
@@ -150,18 +150,21 @@ fn classes_of_a_wide_label() {
     assert_eq!(none.classes(Element(1)), []);
 }
 
-/// The wrapper's stack is twice what the header calls enough.
-#[test]
-fn stack_of_the_header() {
+/// A number that the header defines, as a product.
+fn of_header(name: &str) -> usize {
     let header = concat!(env!("CARGO_MANIFEST_DIR"), "/../../include/style_deck.h");
     let header = std::fs::read_to_string(header).unwrap();
-    let (_, after) = header
-        .split_once("#define STYLE_DECK_STACK_BYTES (")
-        .unwrap();
-    let (product, _) = after.split_once(')').unwrap();
+    let (_, after) = header.split_once(&format!("#define {name} ")).unwrap();
+    let product = after.lines().next().unwrap().trim_matches(['(', ')']);
     let factors = product.split('*').map(|f| f.trim().trim_end_matches('u'));
-    let bytes: usize = factors.map(|f| f.parse::<usize>().unwrap()).product();
-    assert_eq!(STACK_BYTES, 2 * bytes);
+    factors.map(|f| f.parse::<usize>().unwrap()).product()
+}
+
+/// The wrapper's stack is twice what the header calls enough.
+#[test]
+fn numbers_of_the_header() {
+    assert_eq!(STACK_BYTES, 2 * of_header("STYLE_DECK_STACK_BYTES"));
+    assert_eq!(REPORT_BYTES, of_header("STYLE_DECK_REPORT_BYTES"));
 }
 
 #[test]

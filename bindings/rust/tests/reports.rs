@@ -1,7 +1,7 @@
 //! The texts of `crates/test_report`, through the wrapper: what `report` must say of each deck there is in the file `stdout`,
 //! made by `tests/make_reports.py` from document 01.
 use std::path::PathBuf;
-use style_deck::report;
+use style_deck::{report, report_in};
 
 fn data(name: &str) -> Vec<u8> {
     let path = PathBuf::from(env!("CARGO_MANIFEST_DIR")).join("../../crates/test_report");
@@ -44,6 +44,13 @@ impl Words<'_> {
     }
 }
 
+/// The answer in a buffer of so many bytes 127, and what then stands there.
+fn lent(deck: &[u8], length: usize) -> (Option<usize>, String) {
+    let mut out = vec![0x7f; length];
+    let answer = report_in(deck, &mut out);
+    (answer, String::from_utf8(out).unwrap())
+}
+
 #[test]
 fn all_texts() {
     let (input, wanted) = (data("stdin"), String::from_utf8(data("stdout")).unwrap());
@@ -56,8 +63,18 @@ fn all_texts() {
         let name: Vec<u8> = name.iter().flat_map(|w| w.to_le_bytes()).collect();
         let name = String::from_utf8_lossy(&name[..name_length as usize]);
         let deck = words.deck(length as usize, runs);
-        let text = format!("{name}\n{}untouched\n", report(&deck));
-        assert_eq!(Some(text.as_str()), wanted.next());
+        let text = report(&deck);
+        let whole = format!("{name}\n{text}untouched\n");
+        assert_eq!(Some(whole.as_str()), wanted.next());
+        assert_eq!(
+            lent(&deck, text.len() + 3),
+            (Some(text.len()), text.clone() + "\u{7f}\u{7f}\u{7f}")
+        );
+        assert_eq!(lent(&deck, text.len()), (Some(text.len()), text.clone()));
+        assert_eq!(
+            lent(&deck, text.len() - 1),
+            (None, "\u{7f}".repeat(text.len() - 1))
+        );
         count += 1;
     }
     assert_eq!(wanted.next(), Some(format!("{count} cases\n").as_str()));
