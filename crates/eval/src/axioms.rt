@@ -66,6 +66,6 @@ pub fn check_axiom(
         13..=17 => Verdict::UnhandledAxiom(tag, 0),
         18..=22 => Verdict::UnhandledAxiom(tag, 0),
         23..=25 => Verdict::Holds,
-        _ => Verdict::Holds,
+        _ => Verdict::UnhandledAxiom(tag, 0),
     }
 }

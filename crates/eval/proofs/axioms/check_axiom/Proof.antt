@@ -165,12 +165,12 @@ returns-16 c =
     let least = at-least (r .tag) 13 (c .before .before .before .match .rest) in
     answer _ _ _ _ (z .pre .0) (z .args .axiom) (c .before .before .before .before .axiom-at .ensures) (declaration _ _ (now (z .args .deck)) (r .first) (r .second) (r .third) (r .tag) (omega (arith, c .if3 .taken)) (omega (arith, c .if3 .taken)))
 
+-- no tag is left: `AxiomRead` says that it is below 26
 returns-17 : tie.Need-returns-17
 returns-17 c =
-    let z = c .before .before .before .before .before .before .before in
     let r = c .before .before .before .before .axiom-at .result in
     let least = at-least (r .tag) 13 (c .before .before .before .match .rest) in
-    answer _ _ _ _ (z .pre .0) (z .args .axiom) (c .before .before .before .before .axiom-at .ensures) (declaration _ _ (now (z .args .deck)) (r .first) (r .second) (r .third) (r .tag) (omega (arith, least, c .before .before .if1 .left, c .before .if2 .left, c .if3 .left)) (omega (arith, c .before .before .before .before .axiom-at .ensures .known)))
+    absurd (omega (arith, least, c .before .before .if1 .left, c .before .if2 .left, c .if3 .left, c .before .before .before .before .axiom-at .ensures .known))
 
 pub check-axiom-spec : {M : Type 1} → statement M
 check-axiom-spec =
