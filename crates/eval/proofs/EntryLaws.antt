@@ -24,12 +24,12 @@ use Rattle.eval.specs.Structure.{Structure}
 use Rattle.eval.specs.Lent.{Fits, structureOf}
 use Rattle.eval.specs.Foreign.{structureFits}
 use Rattle.eval.specs.Entry.{lentAnswer, conceptAnswer, axiomAnswer}
-use Rattle.eval.specs.Judge.{judge, Right}
+use Rattle.eval.specs.Judge.{judge, truth, Right}
 use Rattle.eval.specs.Verdict.{verdict}
-use Rattle.eval.specs.Truth.{Choice, ext}
+use Rattle.eval.specs.Truth.{Choice, ext, plain}
 use Rattle.eval.specs.Justified.{Justified}
 use Rattle.eval.proofs.Clash.{clash}
-use Rattle.eval.proofs.Rightness.{right}
+use Rattle.eval.proofs.Rightness.{right, exact}
 use Rattle.eval.proofs.ForeignLaws.{fits}
 
 first-accepted : (a b : DeckAnswer) → orElse a b ≡ Accepted → a ≡ Accepted
@@ -65,25 +65,28 @@ module _ (s labels : List ℕ) (rows : List (List ℕ)) (shape : Shape) where
   module _ (c e : ℕ) where
     -- what is due of an answer
     abbrev Judges : ConceptAnswer → Type 0
-    Judges r = (r ≡ conceptAnswer s labels rows shape c e) × ((j : Judgement) → r ≡ ConceptAnswer.Judged j → (χ : Choice) → Right j (ext D S χ c e))
+    Judges r =
+        (r ≡ conceptAnswer s labels rows shape c e) ×
+        (((j : Judgement) → r ≡ ConceptAnswer.Judged j → (χ : Choice) → Right j (ext D S χ c e)) ×
+        ((j : Judgement) → r ≡ ConceptAnswer.Judged j → plain D c ≡ true → (χ : Choice) → j ≡ truth (ext D S χ c e)))
 
     pub concept-refused : (r : Refusal) → lentAnswer s labels rows shape ≡ Refused r → Judges (ConceptAnswer.Refused r)
     unfolding conceptAnswer
-    concept-refused r h = (simp h, λ j q χ. clash (cc))
+    concept-refused r h = (simp h, (λ j q χ. clash (cc), λ j q p χ. clash (cc)))
 
     pub concept-absent : lentAnswer s labels rows shape ≡ Accepted → conceptCount D ≤ c → Judges (ConceptAnswer.Refused AbsentIndex)
     unfolding conceptAnswer
-    concept-absent h l = (simp (h, le-ltb c (conceptCount D) l), λ j q χ. clash (cc))
+    concept-absent h l = (simp (h, le-ltb c (conceptCount D) l), (λ j q χ. clash (cc), λ j q p χ. clash (cc)))
 
     pub element-absent : lentAnswer s labels rows shape ≡ Accepted → shape .elements ≤ e → Judges (ConceptAnswer.Refused AbsentIndex)
     unfolding conceptAnswer
-    element-absent h l = (simp (h, and-absent (ltb c (conceptCount D)) (ltb e (shape .elements)) (le-ltb e (shape .elements) l)), λ j q χ. clash (cc))
+    element-absent h l = (simp (h, and-absent (ltb c (conceptCount D)) (ltb e (shape .elements)) (le-ltb e (shape .elements) l)), (λ j q χ. clash (cc), λ j q p χ. clash (cc)))
 
     pub concept-judged : (j : Judgement) → lentAnswer s labels rows shape ≡ Accepted → c < conceptCount D → e < shape .elements → j ≡ judge D S c e → Judges (ConceptAnswer.Judged j)
     unfolding conceptAnswer
     concept-judged j h l m is = (
       simp (h, lt-ltb c (conceptCount D) l, lt-ltb e (shape .elements) m) (ap ConceptAnswer.Judged is),
-      λ k q χ. let same : k ≡ judge D S c e = cc in rw same (right D (sound s (lent-fits h .accepted)) S χ c e),
+      (λ k q χ. let same : k ≡ judge D S c e = cc in rw same (right D (sound s (lent-fits h .accepted)) S χ c e), λ k q p χ. let same : k ≡ judge D S c e = cc in rw same (exact D (sound s (lent-fits h .accepted)) S χ c p e)),
     )
 
   module _ (a : ℕ) where

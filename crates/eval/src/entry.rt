@@ -1,4 +1,5 @@
 // Judging one concept or axiom over a lent structure. Nothing is taken for granted: what does not fit is refused.
+ghost use mathlib.Core.Bool.{true};
 ghost use mathlib.Core.Path.{_≡_};
 ghost use Rattle.deck.specs.Content.{deckOf};
 ghost use Rattle.deck.specs.Deck.{axiomAt};
@@ -7,10 +8,10 @@ ghost use Rattle.eval.specs.declared.entry.ConceptAnswer.{ConceptAnswer}
 ghost use Rattle.eval.specs.declared.judgement.Judgement.{Judgement};
 ghost use Rattle.eval.specs.declared.verdict.Verdict.{Verdict};
 ghost use Rattle.eval.specs.Entry.{shapeOf, lentAnswer, conceptAnswer, axiomAnswer};
-ghost use Rattle.eval.specs.Judge.{Right};
+ghost use Rattle.eval.specs.Judge.{Right, truth};
 ghost use Rattle.eval.specs.Justified.{Justified};
 ghost use Rattle.eval.specs.Lent.{structureOf};
-ghost use Rattle.eval.specs.Truth.{Choice, ext};
+ghost use Rattle.eval.specs.Truth.{Choice, ext, plain};
 use crate::axioms::check_axiom;
 use crate::concepts::eval_concept;
 use crate::foreign::structure_fits;
@@ -56,11 +57,12 @@ pub fn eval_concept_in(
     elements: u32,
     edges: &[[u32; 3]],
     edge_count: u32,
-    concept: u32,
-    element: u32,
+    concept: ConceptId,
+    element: Element,
 ) -> ConceptAnswer
-    ensures is { λ r. ⌜ r ≡ conceptAnswer (now (deck .entry)) (now (labels .entry)) (now (edges .entry)) (shapeOf elements «edge_count») concept element ⌝ }
-    ensures right { λ r. ⌜ ((j : Judgement) → r ≡ ConceptAnswer.Judged j → (χ : Choice) → Right j (ext (deckOf (now (deck .entry))) (structureOf (deckOf (now (deck .entry))) (now (labels .entry)) (now (edges .entry)) (shapeOf elements «edge_count»)) χ concept element)) ⌝ }
+    ensures is { λ r. ⌜ r ≡ conceptAnswer (now (deck .entry)) (now (labels .entry)) (now (edges .entry)) (shapeOf elements «edge_count») (concept .0) (element .0) ⌝ }
+    ensures right { λ r. ⌜ ((j : Judgement) → r ≡ ConceptAnswer.Judged j → (χ : Choice) → Right j (ext (deckOf (now (deck .entry))) (structureOf (deckOf (now (deck .entry))) (now (labels .entry)) (now (edges .entry)) (shapeOf elements «edge_count»)) χ (concept .0) (element .0))) ⌝ }
+    ensures exact { λ r. ⌜ ((j : Judgement) → r ≡ ConceptAnswer.Judged j → plain (deckOf (now (deck .entry))) (concept .0) ≡ true → (χ : Choice) → j ≡ truth (ext (deckOf (now (deck .entry))) (structureOf (deckOf (now (deck .entry))) (now (labels .entry)) (now (edges .entry)) (shapeOf elements «edge_count»)) χ (concept .0) (element .0))) ⌝ }
 {
     let shape = Shape {
         elements: elements,
@@ -70,20 +72,13 @@ pub fn eval_concept_in(
     if let DeckAnswer::Refused(refusal) = answer {
         return ConceptAnswer::Refused(refusal);
     }
-    if concept >= concept_count(deck) {
+    if concept.0 >= concept_count(deck) {
         return ConceptAnswer::Refused(Refusal::AbsentIndex);
     }
-    if element >= elements {
+    if element.0 >= elements {
         return ConceptAnswer::Refused(Refusal::AbsentIndex);
     }
-    ConceptAnswer::Judged(eval_concept(
-        deck,
-        labels,
-        edges,
-        shape,
-        ConceptId(concept),
-        Element(element),
-    ))
+    ConceptAnswer::Judged(eval_concept(deck, labels, edges, shape, concept, element))
 }
 
 // Is the axiom satisfied in that structure?

@@ -26,18 +26,18 @@ concept-count-requires : tie.Need-concept-count-requires
 concept-count-requires c κs = lent-fits _ _ _ _ (sym (c .before .before .lent-answer .ensures) ∙ c .enum-told .given .1) .accepted
 
 returns-2 : tie.Need-returns-2
-returns-2 c = concept-absent _ _ _ _ _ _ (sym (c .before .before .before .before .lent-answer .ensures) ∙ c .before .before .enum-told .given .1) (omega (arith, c .before .concept-count .ensures .is))
+returns-2 c = concept-absent _ _ _ _ _ _ (sym (c .before .before .before .before .before .lent-answer .ensures) ∙ c .before .before .before .enum-told .given .1) (omega (arith, c .before .before .concept-count .ensures .is))
 
 returns-3 : tie.Need-returns-3
-returns-3 c = element-absent _ _ _ _ _ _ (sym (c .before .before .before .before .before .lent-answer .ensures) ∙ c .before .before .before .enum-told .given .1) (omega (arith, c .if2 .taken))
+returns-3 c = element-absent _ _ _ _ _ _ (sym (c .before .before .before .before .before .before .before .lent-answer .ensures) ∙ c .before .before .before .before .before .enum-told .given .1) (omega (arith, c .if2 .taken))
 
 eval-concept-requires : tie.Need-eval-concept-requires
 eval-concept-requires c κs =
-    (lent-fits _ _ _ _ (sym (c .before .before .before .before .before .lent-answer .ensures) ∙ c .before .before .before .enum-told .given .1), (omega (arith, c .before .before .concept-count .ensures .is), omega (arith, c .if2 .left)))
+    (lent-fits _ _ _ _ (sym (c .before .before .before .before .before .before .before .lent-answer .ensures) ∙ c .before .before .before .before .before .enum-told .given .1), (omega (arith, c .before .before .before .before .concept-count .ensures .is), omega (arith, c .if2 .left)))
 
 returns-4 : tie.Need-returns-4
 returns-4 c =
-    concept-judged _ _ _ _ _ _ _ (sym (c .before .before .before .before .before .before .lent-answer .ensures) ∙ c .before .before .before .before .enum-told .given .1) (omega (arith, c .before .before .if1 .left, c .before .before .before .concept-count .ensures .is)) (omega (arith, c .before .if2 .left)) (c .eval-concept .ensures)
+    concept-judged _ _ _ _ _ _ _ (sym (c .before .before .before .before .before .before .before .before .lent-answer .ensures) ∙ c .before .before .before .before .before .before .enum-told .given .1) (omega (arith, c .before .before .before .if1 .left, c .before .before .before .before .before .concept-count .ensures .is)) (omega (arith, c .before .if2 .left)) (c .eval-concept .ensures)
 
 pub eval-concept-in-spec : {M : Type 1} → statement M
 eval-concept-in-spec =
