@@ -1,4 +1,6 @@
 // What tests/bench/eval.c times: judging one concept over a lent structure.
+use deck::numbers::ConceptId;
+use deck::numbers::Element;
 use deck::refusal::refusal_number;
 use eval::entry::ConceptAnswer;
 use eval::entry::eval_concept_in;
@@ -33,5 +35,13 @@ pub extern "C" fn judge_one(
 ) -> u64
     ensures { λ r. ⌜ r ≡ answerWord (conceptAnswer (now (deck .entry)) (now (labels .entry)) (now (edges .entry)) (shapeOf elements «edge_count») concept element) ⌝ }
 {
-    word(eval_concept_in(deck, labels, elements, edges, edge_count, concept, element))
+    word(eval_concept_in(
+        deck,
+        labels,
+        elements,
+        edges,
+        edge_count,
+        ConceptId(concept),
+        Element(element),
+    ))
 }
