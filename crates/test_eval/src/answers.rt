@@ -3,6 +3,8 @@
 // unresolved construct to base 36); then a line for each axiom, its number and the words of its
 // verdict.
 use cases::numbers::number_at;
+use deck::numbers::ConceptId;
+use deck::numbers::Element;
 use deck::refusal::Refusal;
 use eval::entry::AxiomAnswer;
 use eval::entry::ConceptAnswer;
@@ -102,8 +104,8 @@ fn concept_row(
             elements,
             edges,
             edge_count,
-            concept,
-            element,
+            ConceptId(concept),
+            Element(element),
         );
         print_concept(answer);
         element = std::num::wrapping_add_u32(element, 1);
