@@ -68,15 +68,15 @@ module _ (s labels : List ℕ) (rows : List (List ℕ)) (shape : Shape) (F : Fit
         let k = has-listed s labels rows shape F r x y (e .has) in
         h (k .edge) (record { member = k .«in»; passes = k .by }) (rw (k .from-is, k .to-is) p)
 
-    pub pairs-fail : l .found ≡ true → Fails (w (pair (l .from) (l .to))) ≡ atPairs D S r g w
+    pub pairs-fail : l .found ≡ true → Fails (w (pair (l .from .0) (l .to .0))) ≡ atPairs D S r g w
     pairs-fail h =
         let m = Z .fails h in
         sym
-        (pairs-least D S r g w (l .from) (l .to) (rw (m .from-is, m .to-is) at (edge-from r (m .edge) (m .met))) (rw (m .from-is, m .to-is) at (m .fails))
+        (pairs-least D S r g w (l .from .0) (l .to .0) (rw (m .from-is, m .to-is) at (edge-from r (m .edge) (m .met))) (rw (m .from-is, m .to-is) at (m .fails))
         (λ p q e b n.
         let k = has-listed s labels rows shape F r p q (e .has) in
         let t = m .least (k .edge) (record { member = k .«in»; passes = k .by }) (rw (k .from-is, k .to-is) n) in
-        both-ways (before-below p q (l .from) (l .to) b) (rw (k .from-is, k .to-is) at t)))
+        both-ways (before-below p q (l .from .0) (l .to .0) b) (rw (k .from-is, k .to-is) at t)))
 
     pub pairs-open : (tag : ℕ) → ((x y t : ℕ) → g (pair x y) ≡ Unresolved t → t ≡ tag) → l .found ≡ false → l .noted ≡ true → UnhandledConcept (l .tag) ≡ atPairs D S r g w
     pairs-open tag steady h k =
@@ -108,18 +108,18 @@ module _ (s labels : List ℕ) (rows : List (List ℕ)) (shape : Shape) (F : Fit
         let k = has-listed s labels rows shape F b y z h in
         (k .edge, record { member = k .«in»; passes = both (eq-eqb (k .edge .from .0) y (k .from-is)) (k .by) }, k .from-is, k .to-is)
 
-    pub onward-fail : l .found ≡ true → Fails (three x y (l .to)) ≡ onward D S b sup x y
+    pub onward-fail : l .found ≡ true → Fails (three x y (l .to .0)) ≡ onward D S b sup x y
     onward-fail h =
         let m = Z .fails h in
         let from = eqb (m .edge .from .0) y in
         let is-y = eqb-true (m .edge .from .0) y (and-left from _ (m .met .passes)) in
         let has = edge-has s labels rows shape F b (m .edge) (m .met .member) (and-right from _ (m .met .passes)) in
         sym
-        (onward-least D S b sup x y (l .to) (rw (m .to-is) at (edge-fits s labels rows shape F (m .edge) (m .met .member) .to)) (rw (is-y, m .to-is) at has)
+        (onward-least D S b sup x y (l .to .0) (rw (m .to-is) at (edge-fits s labels rows shape F (m .edge) (m .met .member) .to)) (rw (is-y, m .to-is) at has)
         (rw (m .to-is) at (edge-laws.truth-false (hasEdge D S sup x (m .edge .to .0)) (m .fails)))
         (λ u k e. truth-not-false (λ n.
         let t = met u e in
-        both-ways (before-below y u (l .from) (l .to) (_⊎_.inr (sym is-y ∙ m .from-is, k))) (rw (t .2, t .3) at (m .least (t .0) (t .1) (rw (t .3) n))))))
+        both-ways (before-below y u (l .from .0) (l .to .0) (_⊎_.inr (sym is-y ∙ m .from-is, k))) (rw (t .2, t .3) at (m .least (t .0) (t .1) (rw (t .3) n))))))
 
     pub onward-hold : l .found ≡ false → Holds ≡ onward D S b sup x y
     onward-hold h =
@@ -135,15 +135,15 @@ module _ (s labels : List ℕ) (rows : List (List ℕ)) (shape : Shape) (F : Fit
     holds-of (UnhandledConcept tag) h = absurd (h refl)
     holds-of (GuardedRoleHasEdges r) h = absurd (h refl)
 
-    pub composed-fail : l .found ≡ true → onward D S b sup (l .from) (l .to) ≡ composed D S a b sup
+    pub composed-fail : l .found ≡ true → onward D S b sup (l .from .0) (l .to .0) ≡ composed D S a b sup
     composed-fail h =
         let m = Z .fails h in
         sym
-        (composed-first D S a b sup (l .from) (l .to) (rw (m .from-is, m .to-is) at (edge-from a (m .edge) (m .met)))
-        (λ n. let f : truth (isHolds (onward D S b sup (l .from) (l .to))) ≡ False = rw (m .from-is, m .to-is) at (m .fails) in clash (cc (rw n at f)))
+        (composed-first D S a b sup (l .from .0) (l .to .0) (rw (m .from-is, m .to-is) at (edge-from a (m .edge) (m .met)))
+        (λ n. let f : truth (isHolds (onward D S b sup (l .from .0) (l .to .0))) ≡ False = rw (m .from-is, m .to-is) at (m .fails) in clash (cc (rw n at f)))
         (λ p q e k. holds-of (onward D S b sup p q) (λ n.
         let t = has-listed s labels rows shape F a p q (e .has) in
-        both-ways (before-below p q (l .from) (l .to) k) (rw (t .from-is, t .to-is) at (m .least (t .edge) (record { member = t .«in»; passes = t .by }) (rw (t .from-is, t .to-is) n))))))
+        both-ways (before-below p q (l .from .0) (l .to .0) k) (rw (t .from-is, t .to-is) at (m .least (t .edge) (record { member = t .«in»; passes = t .by }) (rw (t .from-is, t .to-is) n))))))
 
     pub composed-hold : l .found ≡ false → Holds ≡ composed D S a b sup
     composed-hold h =

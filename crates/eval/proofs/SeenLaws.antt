@@ -85,12 +85,12 @@ module _ (P Q : Edge → Type 0) (f : Edge → Judgement) (e : Edge) (keep : (x 
   }
 
   seen-false : f e ≡ False → Seen Q f (lower l e)
-  seen-false p = go (l .found) (before (e .from .0) (e .to .0) (l .from) (l .to)) refl refl
+  seen-false p = go (l .found) (before (e .from .0) (e .to .0) (l .from .0) (l .to .0)) refl refl
     where
       new : Lowest
-      new = record { found = true; from = e .from .0; to = e .to .0; noted = l .noted; tag = l .tag }
+      new = record { found = true; from = e .from; to = e .to; noted = l .noted; tag = l .tag }
 
-      go : (b c : Bool) → l .found ≡ b → before (e .from .0) (e .to .0) (l .from) (l .to) ≡ c → Seen Q f (cond (b && not c) l (record { found = true; from = e .from .0; to = e .to .0; noted = l .noted; tag = l .tag }))
+      go : (b c : Bool) → l .found ≡ b → before (e .from .0) (e .to .0) (l .from .0) (l .to .0) ≡ c → Seen Q f (cond (b && not c) l (record { found = true; from = e .from; to = e .to; noted = l .noted; tag = l .tag }))
       go true false h k =
           let m = S .fails h in
           record {
@@ -113,7 +113,7 @@ module _ (P Q : Edge → Type 0) (f : Edge → Judgement) (e : Edge) (keep : (x 
           fails = p;
           from-is = refl;
           to-is = refl;
-          least = λ x q u. ⊎-elim (λ n. before-trans (x .from .0) (x .to .0) (e .from .0) (e .to .0) (l .from) (l .to) k (S .fails h .least x n u)) (λ (n : x ≡ e). rw n (before-self (e .from .0) (e .to .0))) (split x q);
+          least = λ x q u. ⊎-elim (λ n. before-trans (x .from .0) (x .to .0) (e .from .0) (e .to .0) (l .from .0) (l .to .0) k (S .fails h .least x n u)) (λ (n : x ≡ e). rw n (before-self (e .from .0) (e .to .0))) (split x q);
         };
         sound = λ i. clash (cc);
         opens = open-kept;

@@ -10,7 +10,7 @@ use Rattle.eval.specs.declared.judgement.Judgement.the-variants.{False, 
 use Rattle.eval.specs.declared.lowest.Lowest.{Lowest}
 
 abbrev pub nothingYet : Lowest
-nothingYet = record { found = false; from = 0; to = 0; noted = false; tag = 0 }
+nothingYet = record { found = false; from = record { 0 = 0 }; to = record { 0 = 0 }; noted = false; tag = 0 }
 
 -- is (x, y) before (u, v)?
 abbrev pub before : ℕ → ℕ → ℕ → ℕ → Bool
@@ -18,8 +18,8 @@ before x y u v = ltb x u || (eqb x u && ltb y v)
 
 abbrev pub lower : Lowest → Edge → Lowest
 lower s e =
-    cond (s .found && not (before (e .from .0) (e .to .0) (s .from) (s .to))) s
-    (record { found = true; from = e .from .0; to = e .to .0; noted = s .noted; tag = s .tag })
+    cond (s .found && not (before (e .from .0) (e .to .0) (s .from .0) (s .to .0))) s
+    (record { found = true; from = e .from; to = e .to; noted = s .noted; tag = s .tag })
 
 -- after one more edge, with the outcome there
 abbrev pub lowestNext : Lowest → Judgement → Edge → Lowest
@@ -37,9 +37,9 @@ pub record Least (P : Edge → Type 0) (f : Edge → Judgement) (l : Lowest) : T
   pub edge : Edge
   pub met : P edge
   pub fails : f edge ≡ False
-  pub from-is : edge .from .0 ≡ l .from
-  pub to-is : edge .to .0 ≡ l .to
-  pub least : (e : Edge) → P e → f e ≡ False → before (e .from .0) (e .to .0) (l .from) (l .to) ≡ false
+  pub from-is : edge .from .0 ≡ l .from .0
+  pub to-is : edge .to .0 ≡ l .to .0
+  pub least : (e : Edge) → P e → f e ≡ False → before (e .from .0) (e .to .0) (l .from .0) (l .to .0) ≡ false
 
 -- an edge that is left open, with the tag
 pub record LeftOpen (P : Edge → Type 0) (f : Edge → Judgement) (t : ℕ) : Type 0 where

@@ -72,7 +72,8 @@ fn check_onward(
     let lowest = lowest_onward(deck, labels, edges, shape, b, sup, x, y);
     let found = lowest.found;
     if found {
-        return Verdict::Fails(Witnesses::Three(x, y, Element(lowest.to)));
+        let to = lowest.to;
+        return Verdict::Fails(Witnesses::Three(x, y, to));
     }
     Verdict::Holds
 }
@@ -127,16 +128,7 @@ pub fn check_composed(
     let lowest = lowest_composed(deck, labels, edges, shape, a, b, sup);
     let found = lowest.found;
     if found {
-        return check_onward(
-            deck,
-            labels,
-            edges,
-            shape,
-            b,
-            sup,
-            Element(lowest.from),
-            Element(lowest.to),
-        );
+        return check_onward(deck, labels, edges, shape, b, sup, lowest.from, lowest.to);
     }
     Verdict::Holds
 }

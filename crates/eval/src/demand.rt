@@ -111,7 +111,7 @@ pub fn check_pairs(
     let found = lowest.found;
     let noted = lowest.noted;
     if found {
-        return Verdict::Fails(blame_at(demand, Element(lowest.from), Element(lowest.to)));
+        return Verdict::Fails(blame_at(demand, lowest.from, lowest.to));
     }
     if noted {
         return Verdict::UnhandledConcept(lowest.tag);

@@ -3,24 +3,25 @@ ghost use mathlib.Core.Path.{_≡_};
 ghost use Rattle.eval.specs.Lowest.{nothingYet, before, lower, lowestNext};
 use crate::edges::Edge;
 use crate::judgement::Judgement;
+use deck::numbers::Element;
 
 pub struct Lowest {
     pub found: bool,
-    pub from: u32,
-    pub to: u32,
+    pub from: Element,
+    pub to: Element,
     pub noted: bool,
     pub tag: u32,
 }
 
 // Is the edge before (from, to)?
-fn is_before(e: Edge, from: u32, to: u32) -> bool
-    ensures { λ r. ⌜ r ≡ before (e .from .0) (e .to .0) from to ⌝ }
+fn is_before(e: Edge, from: Element, to: Element) -> bool
+    ensures { λ r. ⌜ r ≡ before (e .from .0) (e .to .0) (from .0) (to .0) ⌝ }
 {
-    if e.from.0 < from {
+    if e.from.0 < from.0 {
         return true;
     }
-    if e.from.0 == from {
-        return e.to.0 < to;
+    if e.from.0 == from.0 {
+        return e.to.0 < to.0;
     }
     false
 }
@@ -31,8 +32,8 @@ impl Lowest {
     {
         Lowest {
             found: false,
-            from: 0,
-            to: 0,
+            from: Element(0),
+            to: Element(0),
             noted: false,
             tag: 0,
         }
@@ -43,6 +44,8 @@ impl Lowest {
         ensures { λ r. ⌜ r ≡ lower self e ⌝ }
     {
         let found = self.found;
+        let from = e.from;
+        let to = e.to;
         if found {
             if !is_before(e, self.from, self.to) {
                 return self;
@@ -50,8 +53,8 @@ impl Lowest {
         }
         Lowest {
             found: true,
-            from: e.from.0,
-            to: e.to.0,
+            from: from,
+            to: to,
             noted: self.noted,
             tag: self.tag,
         }
@@ -61,13 +64,15 @@ impl Lowest {
     pub fn next(self, j: Judgement, e: Edge) -> Lowest
         ensures { λ r. ⌜ r ≡ lowestNext self j e ⌝ }
     {
+        let from = self.from;
+        let to = self.to;
         match j {
             Judgement::False => self.fail(e),
             Judgement::True => self,
             Judgement::Unresolved(tag) => Lowest {
                 found: self.found,
-                from: self.from,
-                to: self.to,
+                from: from,
+                to: to,
                 noted: true,
                 tag: tag,
             },
