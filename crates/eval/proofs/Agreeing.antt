@@ -1,32 +1,46 @@
--- Judging and checking look at a structure's elements only, their classes and the edges between them: structures that agree in
--- these have the same judgements and verdicts.
-use Prim.Native.Nat.{ℕ, _<_}
-use mathlib.Core.Bool.{Bool, true, false, cond}
-use mathlib.Core.Path.{_≡_, refl, ap, _∙_}
+-- Judging, checking and truth look at a structure's elements only, their classes and the edges between them: structures that agree
+-- in these have the same judgements and verdicts, and the same axioms are true in them.
+--     judge-agree, verdict-agree    judgements, verdicts
+--     ext-agree                     extensions, under every choice
+--     true-agree, false-agree       truth, and falsity at witnesses, of an axiom whose numbers are the deck's
+-- Assumes nothing.
+use Prim.Native.Nat.{ℕ, suc, _<_}
+use mathlib.Core.Bool.{Bool, true, false, cond, _&&_}
+use mathlib.Core.Path.{_≡_, refl, sym, ap, _∙_}
+use mathlib.Core.Logic.{_↔_, _⊎_}
 use mathlib.Core.List.{List, [], _∷_, map, flatMap, List·Memᴰ as Member, List·Memᴰ·head as here, List·Memᴰ·tail as there, List·Memᴰ·not-nil as nothing-in}
+use native.Mathlib.Omega.{arith}
 use lib.Dec.{ltb, eqb}
-use lib.ListN.{List·getD-eq-default}
+use lib.ListN.{getD, length, List·getD-eq-default}
 use borrow.Author.Tests.{ltb-true, ltb-false}
-use Rattle.deck.specs.Deck.{Deck, Role, roleId, Concept, Axiom, conceptAt, roleAt, classCount, roleCount}
-use Rattle.deck.specs.Sound.{Sound, ConceptFits, countsIn}
+use Rattle.deck.specs.Deck.{Deck, Role, roleId, Concept, Axiom, conceptAt, roleAt, classCount, roleCount, conceptCount}
+use Rattle.deck.specs.Sound.{Sound, ConceptFits, AxiomFits, countsIn}
 use Rattle.eval.specs.declared.judgement.Judgement.{Judgement}
 use Rattle.eval.specs.declared.standing.Standing.{Standing}
 use Rattle.eval.specs.declared.verdict.Witnesses.{Witnesses}
 use Rattle.eval.specs.declared.verdict.Verdict.the-variants.{Holds, UnhandledAxiom}
 use Rattle.eval.specs.Standing.{fresh, andNext, someNext}
-use Rattle.eval.specs.Lists.{range, keep, any}
-use Rattle.eval.specs.Structure.{Structure, elements, hasEdge, successors, pair, pairs, Pair, anyInverse}
+use Rattle.eval.specs.Lists.{range, keep, every, any}
+use Rattle.eval.specs.Structure.{Structure, elements, hasEdge, successors, pair, pairs, Pair, hasPair, anyInverse}
 use Rattle.eval.specs.Judge.{judge, judgeOf, truth, someFrom}
 use Rattle.eval.specs.Verdict.{verdict, scan, implies, allAgree, atMostOne, within, onward, composed, across, equivalent, inTurn, one, two, three}
+use Rattle.eval.specs.Truth.{Choice, ext, extOf, AtOne, AtTwo, AtThree, AtChain, Apart, In, Out, inOne, Break, True, FalseAt}
 use Rattle.eval.proofs.Falling.{falling}
 use Rattle.eval.proofs.ListLaws.{map-same}
-use Rattle.eval.proofs.Steps.{fits, each-below, and-same, judge-at}
+use Rattle.eval.proofs.Steps.{fits, each-below, and-same, judge-at, ext-at}
 use Rattle.eval.proofs.EdgeLaws.{in-elements, in-successors, in-pairs, Edge}
 
 pub record Agree (D : Deck) (S T : Structure) : Type 0 where
   pub size : S .size ≡ T .size
   pub member : (e k : ℕ) → e < S .size → k < classCount D → S .member e k ≡ T .member e k
   pub edge : (r x y : ℕ) → r < roleCount D → x < S .size → y < S .size → S .edge r x y ≡ T .edge r x y
+
+agree-sym : {D : Deck} {S T : Structure} → Agree D S T → Agree D T S
+agree-sym Q = record {
+  size = sym (Q .size);
+  member = λ e k h l. sym (Q .member e k (rw (Q .size) h) l);
+  edge = λ r x y l h k. sym (Q .edge r x y l (rw (Q .size) h) (rw (Q .size) k));
+}
 
 -- ---- what a list is asked
 keep-same : (p q : ℕ → Bool) (xs : List ℕ) → ((x : ℕ) → Member x xs → p x ≡ q x) → keep p xs ≡ keep q xs
@@ -168,3 +182,126 @@ module _ (D : Deck) (W : Sound D) (S T : Structure) (Q : Agree D S T) where
   verdict-agree (Axiom.DeclareClass k) = refl
   verdict-agree (Axiom.DeclareObjectProperty r) = refl
   verdict-agree (Axiom.DeclareNamedIndividual i) = refl
+
+  -- ---- truth
+  pair-agree : (r : Role) (x y : ℕ) → x < S .size → y < S .size → hasPair D S r x y ≡ hasPair D T r x y
+  pair-agree (Role.Named r) x y h k = edge-agree r x y h k
+  pair-agree (Role.Inverse r) x y h k = edge-agree r y x k h
+
+  module _ (χ : Choice) where
+    ext-of : (c : ℕ) (k : Concept) → ConceptFits (countsIn D) c k → ((o : ℕ) → o < c → (e : ℕ) → e < S .size → ext D S χ o e ≡ ext D T χ o e) → (e : ℕ) → e < S .size
+        → extOf D S χ c k (ext D S χ) e ≡ extOf D T χ c k (ext D T χ) e
+    unfolding extOf
+    ext-of c Concept.Top h ih e l = refl
+    ext-of c Concept.Bot h ih e l = refl
+    ext-of c (Concept.Atomic k) h ih e l = Q .member e k l h
+    ext-of c (Concept.Nominal i) h ih e l = refl
+    ext-of c (Concept.SelfRestriction r) h ih e l = refl
+    ext-of c (Concept.Not b) h ih e l = refl
+    ext-of c (Concept.And os) h ih e l = ap every (map-same (λ o. ext D S χ o e) (λ o. ext D T χ o e) os (λ o m. ih o (each-below c os h o m) e l))
+    ext-of c (Concept.Or os) h ih e l = refl
+    ext-of c (Concept.Some (Role.Named r) b) h ih e l =
+        ap any (map-same (λ t. hasEdge D S r e t && ext D S χ b t) (λ t. hasEdge D T r e t && ext D T χ b t) (elements S) (λ t m. let k = in-elements S t m in rw (edge-agree r e t l k, ih b (h .1) t k)))
+        ∙ ap (λ (n : ℕ). any (map (λ t. hasEdge D T r e t && ext D T χ b t) (range 0 n))) (Q .size)
+    ext-of c (Concept.Some (Role.Inverse r) b) h ih e l = refl
+    ext-of c (Concept.All r b) h ih e l = refl
+    ext-of c (Concept.Min n r b) h ih e l = refl
+    ext-of c (Concept.Max n r b) h ih e l = refl
+
+    pub ext-agree : (c e : ℕ) → e < S .size → ext D S χ c e ≡ ext D T χ c e
+    ext-agree =
+        falling (λ c. (e : ℕ) → e < S .size → ext D S χ c e ≡ ext D T χ c e) (λ c ih e l. rw (ext-at D W S χ c, ext-at D W T χ c) (ext-of c (conceptAt D c) (fits D W c) ih e l))
+
+    -- a truth value about one structure is the same about the other
+    as-is : {a b c : Bool} → a ≡ b → a ≡ c → b ≡ c
+    as-is p q = sym p ∙ q
+
+    one-agree : (P R : ℕ → Type 0) (ws : List ℕ) → ((x : ℕ) → x < S .size → P x → R x) → AtOne (S .size) P ws → AtOne (T .size) R ws
+    one-agree P R ws h b = record { x = b .x; is = b .is; x-in = rw (Q .size) at (b .x-in); breaks = h (b .x) (b .x-in) (b .breaks) }
+
+    two-agree : (P R : ℕ → ℕ → Type 0) (ws : List ℕ) → ((x y : ℕ) → x < S .size → y < S .size → P x y → R x y) → AtTwo (S .size) P ws → AtTwo (T .size) R ws
+    two-agree P R ws h b = record { x = b .x; y = b .y; is = b .is; x-in = rw (Q .size) at (b .x-in); y-in = rw (Q .size) at (b .y-in); breaks = h (b .x) (b .y) (b .x-in) (b .y-in) (b .breaks) }
+
+    three-agree : (P R : ℕ → ℕ → ℕ → Type 0) (ws : List ℕ) → ((x y z : ℕ) → x < S .size → y < S .size → z < S .size → P x y z → R x y z) → AtThree (S .size) P ws → AtThree (T .size) R ws
+    three-agree P R ws h b = record {
+      x = b .x;
+      y = b .y;
+      z = b .z;
+      is = b .is;
+      x-in = rw (Q .size) at (b .x-in);
+      y-in = rw (Q .size) at (b .y-in);
+      z-in = rw (Q .size) at (b .z-in);
+      breaks = h (b .x) (b .y) (b .z) (b .x-in) (b .y-in) (b .z-in) (b .breaks);
+    }
+
+    apart-agree : {A : Type 0} (d : A) (l : List A) (P R : A → A → Type 0) → ((a b : A) → P a b → R a b) → Apart d l P → Apart d l R
+    apart-agree d l P R h k = record { i = k .i; j = k .j; i-in = k .i-in; j-in = k .j-in; apart = k .apart; related = h _ _ (k .related) }
+
+    -- in, outside, linked by a role word: the same at elements
+    at : (c x : ℕ) → x < S .size → {b : Bool} → ext D S χ c x ≡ b → ext D T χ c x ≡ b
+    at c x h p = as-is (ext-agree c x h) p
+
+    by : (r : Role) (x y : ℕ) → x < S .size → y < S .size → {b : Bool} → hasPair D S r x y ≡ b → hasPair D T r x y ≡ b
+    by r x y h k p = as-is (pair-agree r x y h k) p
+
+    in-one : (l : List ℕ) (x : ℕ) → x < S .size → {b : Bool} → inOne D S χ l x ≡ b → inOne D T χ l x ≡ b
+    in-one l x h p = as-is (ap any (map-same (λ c. ext D S χ c x) (λ c. ext D T χ c x) l (λ c m. ext-agree c x h))) p
+
+    union-agree : (k : ℕ) (l : List ℕ) (x : ℕ) → k < classCount D → x < S .size
+        → ((S .member x k ≡ true) × (inOne D S χ l x ≡ false)) ⊎ (((S .member x k ≡ false) × (inOne D S χ l x ≡ true)) ⊎ Apart 0 l (λ c d. In D S χ c x × In D S χ d x))
+        → ((T .member x k ≡ true) × (inOne D T χ l x ≡ false)) ⊎ (((T .member x k ≡ false) × (inOne D T χ l x ≡ true)) ⊎ Apart 0 l (λ c d. In D T χ c x × In D T χ d x))
+    union-agree k l x f h (_⊎_.inl p) = _⊎_.inl (as-is (Q .member x k h f) (p .0), in-one l x h (p .1))
+    union-agree k l x f h (_⊎_.inr (_⊎_.inl p)) = _⊎_.inr (_⊎_.inl (as-is (Q .member x k h f) (p .0), in-one l x h (p .1)))
+    union-agree k l x f h (_⊎_.inr (_⊎_.inr p)) = _⊎_.inr (_⊎_.inr (apart-agree 0 l _ _ (λ c d q. (at c x h (q .0), at d x h (q .1))) p))
+
+    turned-agree : (p q : Role) (x y : ℕ) → x < S .size → y < S .size
+        → ((hasPair D S p x y ≡ true) × (hasPair D S q y x ≡ false)) ⊎ ((hasPair D S q x y ≡ true) × (hasPair D S p y x ≡ false))
+        → ((hasPair D T p x y ≡ true) × (hasPair D T q y x ≡ false)) ⊎ ((hasPair D T q x y ≡ true) × (hasPair D T p y x ≡ false))
+    turned-agree p q x y h k (_⊎_.inl b) = _⊎_.inl (by p x y h k (b .0), by q y x k h (b .1))
+    turned-agree p q x y h k (_⊎_.inr b) = _⊎_.inr (by q x y h k (b .0), by p y x k h (b .1))
+
+    chain-break : (l : List Role) (sup : Role) (ws : List ℕ) → AtChain D S l sup ws → AtChain D T l sup ws
+    chain-break l sup ws b = record {
+      long = b .long;
+      all-in = λ i h. rw (Q .size) at (b .all-in i h);
+      linked = λ i h. by (getD l i (Role.Named 0)) _ _ (b .all-in i (omega (arith, b .long))) (b .all-in (suc i) (omega (arith, b .long))) (b .linked i h);
+      ends = by sup _ _ (b .all-in 0 (omega (arith, b .long))) (b .all-in (length l) (omega (arith, b .long))) (b .ends);
+    }
+
+    break-agree : (a : Axiom) → AxiomFits (countsIn D) (conceptCount D) a → (ws : List ℕ) → Break D S χ a ws → Break D T χ a ws
+    break-agree (Axiom.SubClassOf sub sup) f ws = one-agree _ _ ws (λ x h b. (at sub x h (b .0), at sup x h (b .1)))
+    break-agree (Axiom.EquivalentClasses l) f ws = one-agree _ _ ws (λ x h. apart-agree 0 l _ _ (λ c d b. (at c x h (b .0), at d x h (b .1))))
+    break-agree (Axiom.DisjointClasses l) f ws = one-agree _ _ ws (λ x h. apart-agree 0 l _ _ (λ c d b. (at c x h (b .0), at d x h (b .1))))
+    break-agree (Axiom.DisjointUnion k l) f ws = one-agree _ _ ws (λ x h. union-agree k l x (f .0) h)
+    break-agree (Axiom.SubObjectPropertyOf sub sup) f ws = two-agree _ _ ws (λ x y h k b. (by sub x y h k (b .0), by sup x y h k (b .1)))
+    break-agree (Axiom.SubObjectPropertyChain l sup) f ws = chain-break l sup ws
+    break-agree (Axiom.EquivalentObjectProperties l) f ws = two-agree _ _ ws (λ x y h k. apart-agree (Role.Named 0) l _ _ (λ p q b. (by p x y h k (b .0), by q x y h k (b .1))))
+    break-agree (Axiom.DisjointObjectProperties l) f ws = two-agree _ _ ws (λ x y h k. apart-agree (Role.Named 0) l _ _ (λ p q b. (by p x y h k (b .0), by q x y h k (b .1))))
+    break-agree (Axiom.InverseObjectProperties p q) f ws = two-agree _ _ ws (turned-agree p q)
+    break-agree (Axiom.ObjectPropertyDomain r c) f ws = two-agree _ _ ws (λ x y h k b. (by r x y h k (b .0), at c x h (b .1)))
+    break-agree (Axiom.ObjectPropertyRange r c) f ws = two-agree _ _ ws (λ x y h k b. (by r x y h k (b .0), at c y k (b .1)))
+    break-agree (Axiom.TransitiveRole r) f ws = three-agree _ _ ws (λ x y z h k l b. (by r x y h k (b .0), by r y z k l (b .1), by r x z h l (b .2)))
+    break-agree (Axiom.SymmetricRole r) f ws = two-agree _ _ ws (λ x y h k b. (by r x y h k (b .0), by r y x k h (b .1)))
+    break-agree (Axiom.AsymmetricRole r) f ws = two-agree _ _ ws (λ x y h k b. (by r x y h k (b .0), by r y x k h (b .1)))
+    break-agree (Axiom.ReflexiveRole r) f ws = one-agree _ _ ws (λ x h b. by r x x h h b)
+    break-agree (Axiom.IrreflexiveRole r) f ws = one-agree _ _ ws (λ x h b. by r x x h h b)
+    break-agree (Axiom.FunctionalRole r) f ws = three-agree _ _ ws (λ x y z h k l b. (by r x y h k (b .0), by r x z h l (b .1), b .2))
+    break-agree (Axiom.InverseFunctionalRole r) f ws = three-agree _ _ ws (λ x y z h k l b. (by r x z h l (b .0), by r y z k l (b .1), b .2))
+    break-agree (Axiom.ClassAssertion c i) f ws = one-agree _ _ ws (λ x h b. (b .0, at c x h (b .1)))
+    break-agree (Axiom.ObjectPropertyAssertion r i j) f ws = two-agree _ _ ws (λ x y h k b. (b .0, b .1, by r x y h k (b .2)))
+    break-agree (Axiom.NegativeObjectPropertyAssertion r i j) f ws = two-agree _ _ ws (λ x y h k b. (b .0, b .1, by r x y h k (b .2)))
+    break-agree (Axiom.SameIndividual l) f ws = two-agree _ _ ws (λ x y h k b. b)
+    break-agree (Axiom.DifferentIndividuals l) f ws = one-agree _ _ ws (λ x h b. b)
+    break-agree (Axiom.DeclareClass k) f ws = λ b. b
+    break-agree (Axiom.DeclareObjectProperty r) f ws = λ b. b
+    break-agree (Axiom.DeclareNamedIndividual i) f ws = λ b. b
+
+module _ (D : Deck) (W : Sound D) (S T : Structure) (Q : Agree D S T) (χ : Choice) (a : Axiom) (f : AxiomFits (countsIn D) (conceptCount D) a) where
+  pub true-agree : True D S χ a ↔ True D T χ a
+  true-agree = (λ t ws b. t ws (break-agree D W T S (agree-sym Q) χ a f ws b), λ t ws b. t ws (break-agree D W S T Q χ a f ws b))
+
+  false-to : (ws : List ℕ) → FalseAt D S χ a ws → FalseAt D T χ a ws
+  false-to ws n = record { elements = n .elements; break = break-agree D W S T Q χ a f (n .elements) (n .break); stand = n .stand }
+
+pub false-agree : (D : Deck) (W : Sound D) (S T : Structure) (Q : Agree D S T) (χ : Choice) (a : Axiom) → AxiomFits (countsIn D) (conceptCount D) a → (ws : List ℕ) → FalseAt D S χ a ws ↔ FalseAt D T χ a ws
+false-agree D W S T Q χ a f ws = (false-to D W S T Q χ a f ws, false-to D W T S (agree-sym Q) χ a f ws)
