@@ -12,6 +12,7 @@ pub mod EdgeLaws
 pub mod Breaks
 pub mod Soundness
 pub mod Exactness
+pub mod StandardLaws
 pub mod Specimens
 pub mod Walks
 pub mod ElementLoops

@@ -5,6 +5,7 @@ pub mod Standing
 pub mod Judge
 pub mod Verdict
 pub mod Truth
+pub mod Standard
 pub mod Edges
 pub mod Lent
 pub mod Lowest

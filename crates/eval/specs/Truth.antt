@@ -12,10 +12,15 @@ use Rattle.eval.specs.Lists.{every, any}
 use Rattle.eval.specs.Structure.{Structure, elements, hasEdge, hasPair, inverse, anyInverse}
 
 -- "A choice gives each unresolved concept number any set of elements, each individual any element, if there is one."
--- A number past the elements may stand for an individual too: no break is at one, so what is shown of every choice is shown of these.
+-- The paper's choices are the proper ones. What is shown of every choice is shown of more: where a number past the elements stands
+-- for an individual, no break is at it.
 pub record Choice : Type 0 where
   pub sets : ℕ → ℕ → Bool  -- concept, element
   pub individuals : ℕ → ℕ
+
+-- "each individual any element, if there is one"
+abbrev pub Proper : Structure → Choice → Type 0
+Proper S χ = (i : ℕ) → 0 < S .size → χ .individuals i < S .size
 
 -- ---- concepts
 -- "Top is all elements, Bot none, Atomic those with the class, And those in every operand, Some those with a pair into its body"; the others are as chosen
