@@ -14,6 +14,7 @@ pub mod Soundness
 pub mod Exactness
 pub mod StandardLaws
 pub mod Specimens
+pub mod DeckW
 pub mod Walks
 pub mod ElementLoops
 pub mod Order
