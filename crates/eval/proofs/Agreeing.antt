@@ -16,17 +16,18 @@ use borrow.Author.Tests.{ltb-true, ltb-false}
 use Rattle.deck.specs.Deck.{Deck, Role, roleId, Concept, Axiom, conceptAt, roleAt, classCount, roleCount, conceptCount}
 use Rattle.deck.specs.Sound.{Sound, ConceptFits, AxiomFits, countsIn}
 use Rattle.eval.specs.declared.judgement.Judgement.{Judgement}
+use Rattle.eval.specs.declared.judgement.Judgement.the-variants.{Unresolved}
 use Rattle.eval.specs.declared.standing.Standing.{Standing}
 use Rattle.eval.specs.declared.verdict.Witnesses.{Witnesses}
 use Rattle.eval.specs.declared.verdict.Verdict.the-variants.{Holds, UnhandledAxiom}
 use Rattle.eval.specs.Standing.{fresh, andNext, someNext}
 use Rattle.eval.specs.Lists.{range, keep, every, any}
-use Rattle.eval.specs.Structure.{Structure, elements, hasEdge, successors, pair, pairs, Pair, hasPair, anyInverse}
+use Rattle.eval.specs.Structure.{Structure, elements, hasEdge, hasPair, successorsOf, successors, pair, pairs, Pair, inverse, anyInverse}
 use Rattle.eval.specs.Judge.{judge, judgeOf, truth, someFrom}
 use Rattle.eval.specs.Verdict.{verdict, scan, implies, allAgree, atMostOne, within, onward, composed, across, equivalent, inTurn, one, two, three}
 use Rattle.eval.specs.Truth.{Choice, ext, extOf, AtOne, AtTwo, AtThree, AtChain, Apart, In, Out, inOne, Break, True, FalseAt}
 use Rattle.eval.proofs.Falling.{falling}
-use Rattle.eval.proofs.ListLaws.{map-same}
+use Rattle.eval.proofs.ListLaws.{map-same, in-keep}
 use Rattle.eval.proofs.Steps.{fits, each-below, and-same, judge-at, ext-at}
 use Rattle.eval.proofs.EdgeLaws.{in-elements, in-successors, in-pairs, Edge}
 
@@ -76,10 +77,17 @@ module _ (D : Deck) (W : Sound D) (S T : Structure) (Q : Agree D S T) where
   unfolding hasEdge
   edge-agree r x y h k = ap any (map-same (λ q. S .edge q x y) (λ q. T .edge q x y) (roleAt D r .subRoles) (λ q m. Q .edge q x y (sub-below r q m) h k))
 
+  pair-agree : (r : Role) (x y : ℕ) → x < S .size → y < S .size → hasPair D S r x y ≡ hasPair D T r x y
+  pair-agree (Role.Named r) x y h k = edge-agree r x y h k
+  pair-agree (Role.Inverse r) x y h k = edge-agree r y x k h
+
+  word-successors-agree : (r : Role) (x : ℕ) → x < S .size → successorsOf D S r x ≡ successorsOf D T r x
+  word-successors-agree r x h =
+      keep-same (hasPair D S r x) (hasPair D T r x) (elements S) (λ y m. pair-agree r x y h (in-elements S y m)) ∙ ap (λ (n : ℕ). keep (hasPair D T r x) (range 0 n)) (Q .size)
+
   successors-agree : (r x : ℕ) → x < S .size → successors D S r x ≡ successors D T r x
   unfolding successors
-  successors-agree r x h =
-      keep-same (hasEdge D S r x) (hasEdge D T r x) (elements S) (λ y m. edge-agree r x y h (in-elements S y m)) ∙ ap (λ (n : ℕ). keep (hasEdge D T r x) (range 0 n)) (Q .size)
+  successors-agree r = word-successors-agree (Role.Named r)
 
   pairs-agree : (r : ℕ) → pairs D S r ≡ pairs D T r
   unfolding pairs
@@ -99,9 +107,10 @@ module _ (D : Deck) (W : Sound D) (S T : Structure) (Q : Agree D S T) where
   judge-of c (Concept.Not b) h ih e l = refl
   judge-of c (Concept.And os) h ih e l = and-same (λ o. judge D S o e) (λ o. judge D T o e) fresh os (λ o m. ih o (each-below c os h o m) e l)
   judge-of c (Concept.Or os) h ih e l = refl
-  judge-of c (Concept.Some (Role.Named r) b) h ih e l =
-      some-asks (judge D S b) (judge D T b) fresh (successors D S r e) (λ t m. ih b (h .1) t (in-successors D S r e t m .0)) ∙ ap (someFrom (judge D T b) fresh) (successors-agree r e l)
-  judge-of c (Concept.Some (Role.Inverse r) b) h ih e l = refl
+  judge-of c (Concept.Some r b) h ih e l =
+      ap (cond (inverse r) (Unresolved 8))
+      (some-asks (judge D S b) (judge D T b) fresh (successorsOf D S r e) (λ t m. ih b (h .1) t (in-elements S t (in-keep (hasPair D S r e) (elements S) t m .0)))
+      ∙ ap (someFrom (judge D T b) fresh) (word-successors-agree r e l))
   judge-of c (Concept.All r b) h ih e l = refl
   judge-of c (Concept.Min n r b) h ih e l = refl
   judge-of c (Concept.Max n r b) h ih e l = refl
@@ -184,10 +193,6 @@ module _ (D : Deck) (W : Sound D) (S T : Structure) (Q : Agree D S T) where
   verdict-agree (Axiom.DeclareNamedIndividual i) = refl
 
   -- ---- truth
-  pair-agree : (r : Role) (x y : ℕ) → x < S .size → y < S .size → hasPair D S r x y ≡ hasPair D T r x y
-  pair-agree (Role.Named r) x y h k = edge-agree r x y h k
-  pair-agree (Role.Inverse r) x y h k = edge-agree r y x k h
-
   module _ (χ : Choice) where
     ext-of : (c : ℕ) (k : Concept) → ConceptFits (countsIn D) c k → ((o : ℕ) → o < c → (e : ℕ) → e < S .size → ext D S χ o e ≡ ext D T χ o e) → (e : ℕ) → e < S .size
         → extOf D S χ c k (ext D S χ) e ≡ extOf D T χ c k (ext D T χ) e
@@ -200,10 +205,10 @@ module _ (D : Deck) (W : Sound D) (S T : Structure) (Q : Agree D S T) where
     ext-of c (Concept.Not b) h ih e l = refl
     ext-of c (Concept.And os) h ih e l = ap every (map-same (λ o. ext D S χ o e) (λ o. ext D T χ o e) os (λ o m. ih o (each-below c os h o m) e l))
     ext-of c (Concept.Or os) h ih e l = refl
-    ext-of c (Concept.Some (Role.Named r) b) h ih e l =
-        ap any (map-same (λ t. hasEdge D S r e t && ext D S χ b t) (λ t. hasEdge D T r e t && ext D T χ b t) (elements S) (λ t m. let k = in-elements S t m in rw (edge-agree r e t l k, ih b (h .1) t k)))
-        ∙ ap (λ (n : ℕ). any (map (λ t. hasEdge D T r e t && ext D T χ b t) (range 0 n))) (Q .size)
-    ext-of c (Concept.Some (Role.Inverse r) b) h ih e l = refl
+    ext-of c (Concept.Some r b) h ih e l =
+        ap (cond (inverse r) (χ .sets c e))
+        (ap any (map-same (λ t. hasPair D S r e t && ext D S χ b t) (λ t. hasPair D T r e t && ext D T χ b t) (elements S) (λ t m. let k = in-elements S t m in rw (pair-agree r e t l k, ih b (h .1) t k)))
+        ∙ ap (λ (n : ℕ). any (map (λ t. hasPair D T r e t && ext D T χ b t) (range 0 n))) (Q .size))
     ext-of c (Concept.All r b) h ih e l = refl
     ext-of c (Concept.Min n r b) h ih e l = refl
     ext-of c (Concept.Max n r b) h ih e l = refl

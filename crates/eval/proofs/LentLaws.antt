@@ -1,38 +1,43 @@
 -- The structure that lent buffers hold: its edges fit, and a walk over the list of edges meets the successors of an element.
 use Prim.Native.Nat.{ℕ, _/_, _<_}
-use mathlib.Core.Bool.{Bool, true, false, _&&_}
+use mathlib.Core.Bool.{Bool, true, false, cond}
 use mathlib.Core.Path.{_≡_, refl, sym, ap, _∙_}
 use mathlib.Core.List.{List, [], List·Memᴰ as Member}
 use native.Mathlib.Omega.{arith}
 use borrow.Author.Tests.{eqb-true, eq-eqb}
 use lib.Dec.{eqb}
 use lib.ListN.{length, getD}
-use Rattle.deck.specs.Deck.{Deck, Role, roleOf, Concept}
+use Rattle.deck.specs.Deck.{Deck, Role, roleOf, roleId, Concept}
 use Rattle.deck.specs.Numbers.{inverseWord}
 use Rattle.deck.specs.declared.concepts.ConceptExpr.{ConceptExpr}
 use Rattle.deck.specs.Reads.{ConceptRead, exprOf, ExprFits}
 use Rattle.deck.specs.Content.{deckOf}
 use Rattle.deck.proofs.BelowLaws.{and-left, and-right}
 use Rattle.deck.proofs.SoundLaws.{sound}
+use Rattle.deck.proofs.TagLaws.{role-id}
 use Rattle.eval.specs.declared.edges.Edge.{Edge}
 use Rattle.eval.specs.declared.shape.Shape.{Shape}
 use Rattle.eval.specs.declared.judgement.Judgement.the-variants.{Unresolved}
 use Rattle.eval.specs.Standing.{fresh}
-use Rattle.eval.specs.Structure.{Structure, hasEdge, successors}
-use Rattle.eval.specs.Edges.{edgeOf, edgesOf, under, leaves, goes, linked}
+use Rattle.eval.specs.Structure.{Structure, elements, hasEdge, hasPair, successorsOf, inverse}
+use Rattle.eval.specs.Edges.{edgeOf, edgesOf, turned, under, leaves, goes, linked}
 use Rattle.eval.specs.Judge.{judge, judgeOf, someFrom}
 use Rattle.eval.specs.Lent.{Fits, EdgeFits, structureOf}
-use Rattle.eval.proofs.ListLaws.{position, any-at, any-of}
+use Rattle.eval.proofs.ListLaws.{member-at, position, keep-in, in-keep, any-at, any-of}
 use Rattle.eval.proofs.EdgeLaws as edge-laws
 use Rattle.eval.proofs.EdgeWalks.{noEdge, edges-length, edges-at}
 use Rattle.eval.proofs.Hits.{hits, hit-in, in-hits}
 use Rattle.eval.proofs.LinkLaws.{both, has-edge-is}
+use Rattle.eval.proofs.RoleLaws.{inverse-word}
 use Rattle.eval.proofs.Steps.{judge-is}
 use Rattle.eval.proofs.Tags.{some-any}
 
--- where an edge leads
-abbrev pub target : Edge → ℕ
-target e = e .to .0
+-- does an edge leave x by a role word, and where does it lead?
+abbrev pub leavesBy : Deck → Role → ℕ → Edge → Bool
+leavesBy D r x e = leaves D (roleId r) x (turned r e)
+
+abbrev pub targetBy : Role → Edge → ℕ
+targetBy r e = turned r e .to .0
 
 module _ (s labels : List ℕ) (rows : List (List ℕ)) (shape : Shape) (F : Fits s labels rows shape) where
   abbrev D : Deck
@@ -83,22 +88,46 @@ module _ (s labels : List ℕ) (rows : List (List ℕ)) (shape : Shape) (F : Fit
         by = and-right to _ rest;
       }
 
-  module _ (r x : ℕ) where
-    to-successor : (y : ℕ) → Member y (hits (leaves D r x) target es) → Member y (successors D S r x)
-    to-successor y m =
-        let e = in-hits (leaves D r x) target es y m in
-        let from = eqb (e .0 .from .0) x in
-        let f : e .0 .from .0 ≡ x = eqb-true (e .0 .from .0) x (and-left from _ (e .2)) in
-        rw (e .3) (edge-laws.successor-in D S r x (e .0 .to .0) (edge-fits (e .0) (e .1) .to) (rw f at (edge-has r (e .0) (e .1) (and-right from _ (e .2)))))
+  -- ---- the same of a role word, whose edges are turned if it is inverse
+  pair-has : (r : Role) (e : Edge) → Member e es → under D (roleId r) e ≡ true → hasPair D S r (turned r e .from .0) (turned r e .to .0) ≡ true
+  pair-has (Role.Named r) e m h = edge-has r e m h
+  pair-has (Role.Inverse r) e m h = edge-has r e m h
 
-    of-successor : (y : ℕ) → Member y (successors D S r x) → Member y (hits (leaves D r x) target es)
+  turned-to : (r : Role) (e : Edge) → Member e es → turned r e .to .0 < shape .elements
+  turned-to (Role.Named r) e m = edge-fits e m .to
+  turned-to (Role.Inverse r) e m = edge-fits e m .from
+
+  pair-listed : (r : Role) (x y : ℕ) → hasPair D S r x y ≡ true → (e : Edge) × Member e es × (turned r e .from .0 ≡ x) × (turned r e .to .0 ≡ y) × (under D (roleId r) e ≡ true)
+  pair-listed (Role.Named r) x y h = let k = has-listed r x y h in (k .edge, k .«in», k .from-is, k .to-is, k .by)
+  pair-listed (Role.Inverse r) x y h = let k = has-listed r y x h in (k .edge, k .«in», k .to-is, k .from-is, k .by)
+
+  module _ (r : Role) (x : ℕ) where
+    to-successor : (y : ℕ) → Member y (hits (leavesBy D r x) (targetBy r) es) → Member y (successorsOf D S r x)
+    to-successor y m =
+        let e = in-hits (leavesBy D r x) (targetBy r) es y m in
+        let from = eqb (turned r (e .0) .from .0) x in
+        let f = eqb-true (turned r (e .0) .from .0) x (and-left from _ (e .2)) in
+        rw (e .3) (keep-in (hasPair D S r x) (elements S) (targetBy r (e .0)) (edge-laws.element-in S (targetBy r (e .0)) (turned-to r (e .0) (e .1))) (rw f at (pair-has r (e .0) (e .1) (and-right from _ (e .2)))))
+
+    of-successor : (y : ℕ) → Member y (successorsOf D S r x) → Member y (hits (leavesBy D r x) (targetBy r) es)
     of-successor y m =
-        let e = has-listed r x y (edge-laws.in-successors D S r x y m .1) in
-        rw (← e .to-is) (hit-in (leaves D r x) target es (e .edge) (e .«in») (both (eq-eqb (e .edge .from .0) x (e .from-is)) (e .by)))
+        let e = pair-listed r x y (in-keep (hasPair D S r x) (elements S) y m .1) in
+        rw (← e .3) (hit-in (leavesBy D r x) (targetBy r) es (e .0) (e .1) (both (eq-eqb (turned r (e .0) .from .0) x (e .2)) (e .4)))
 
     -- a Some may walk the edges in their own order
-    pub some-walk : (b : ℕ) → someFrom (judge D S b) fresh (hits (leaves D r x) target es) ≡ someFrom (judge D S b) fresh (successors D S r x)
-    some-walk b = some-any D (sound s (F .accepted)) S b (hits (leaves D r x) target es) (successors D S r x) to-successor of-successor
+    pub some-walk : (b : ℕ) → someFrom (judge D S b) fresh (hits (leavesBy D r x) (targetBy r) es) ≡ someFrom (judge D S b) fresh (successorsOf D S r x)
+    some-walk b = some-any D (sound s (F .accepted)) S b (hits (leavesBy D r x) (targetBy r) es) (successorsOf D S r x) to-successor of-successor
+
+  -- edge i of the list, read as a role word sees it
+  module _ (w i : ℕ) (h : i < shape .edges) {edge : Edge} (is : edge ≡ turned (roleOf w) (edgeOf (getD rows i []))) where
+    pub edge-led : edge .to .0 ≡ targetBy (roleOf w) (getD es i noEdge)
+    edge-led = rw (edges-at rows (shape .edges) i h (F .count), is)
+
+    pub edge-leaves : (x : ℕ) {q : ℕ} {b : Bool} → q ≡ w / 2 → b ≡ leaves D q x edge → leavesBy D (roleOf w) x (getD es i noEdge) ≡ b
+    edge-leaves x {q} {b} of p = rw (edges-at rows (shape .edges) i h (F .count), role-id w) (sym (rw (of, is) at p))
+
+    pub edge-led-in : edge .to .0 < shape .elements
+    edge-led-in = let l = edges-length rows (shape .edges) (F .count) in rw edge-led (turned-to (roleOf w) (getD es i noEdge) (member-at noEdge es i (omega (arith, l))))
 
   -- ---- a concept that was read
   module _ (c e : ℕ) {expr : ConceptExpr} (R : ConceptRead s c expr) where
@@ -109,13 +138,12 @@ module _ (s labels : List ℕ) (rows : List (List ℕ)) (shape : Shape) (F : Fit
     fits-read v p = rw p at (R .fits)
 
     module _ (w b : ℕ) (p : expr ≡ ConceptExpr.Some (record { 0 = w }) (record { 0 = b })) where
-      some-read : (r : Role) → roleOf w ≡ r → judgeOf D S (Concept.Some r b) (judge D S) e ≡ judge D S c e
-      some-read r q = ap (λ (k : Role). judgeOf D S (Concept.Some k b) (judge D S) e) (sym q) ∙ judge-read _ p
-
-      pub some-named : inverseWord w ≡ false → someFrom (judge D S b) fresh (successors D S (w / 2) e) ≡ judge D S c e
+      some-is : cond (inverse (roleOf w)) (Unresolved 8) (someFrom (judge D S b) fresh (successorsOf D S (roleOf w) e)) ≡ judge D S c e
       unfolding judgeOf
-      some-named q = some-read (Role.Named (w / 2)) (rw q)
+      some-is = judge-read _ p
+
+      pub some-named : inverseWord w ≡ false → someFrom (judge D S b) fresh (successorsOf D S (roleOf w) e) ≡ judge D S c e
+      some-named q = rw (inverse-word w ∙ q) at some-is
 
       pub some-inverse : inverseWord w ≡ true → Unresolved 8 ≡ judge D S c e
-      unfolding judgeOf
-      some-inverse q = some-read (Role.Inverse (w / 2)) (rw q)
+      some-inverse q = rw (inverse-word w ∙ q) at some-is

@@ -4,16 +4,19 @@
 --     exact      so at a plain concept the judgement is the extension, whatever is chosen
 -- Assumes nothing.
 use Prim.Native.Nat.{ℕ, _<_}
-use mathlib.Core.Bool.{Bool, true, false}
+use mathlib.Core.Bool.{Bool, true, false, cond, not, _&&_}
 use mathlib.Core.Path.{_≡_, refl}
-use Rattle.eval.proofs.Clash.{clash}
-use Rattle.deck.specs.Deck.{Deck, Role, Concept, conceptAt}
+use mathlib.Core.List.{map}
+use borrow.Author.Tests.{not-true}
+use Rattle.eval.proofs.Clash.{clash, both-true}
+use Rattle.deck.specs.Deck.{Deck, Concept, conceptAt}
 use Rattle.deck.specs.Sound.{Sound, ConceptFits, countsIn}
 use Rattle.eval.specs.declared.judgement.Judgement.{Judgement}
 use Rattle.eval.specs.declared.judgement.Judgement.the-variants.{False, True, Unresolved}
-use Rattle.eval.specs.Lists.{keep}
-use Rattle.eval.specs.Structure.{Structure, elements, hasEdge, successors}
-use Rattle.eval.specs.Judge.{judge, judgeOf, truth, Right, decided}
+use Rattle.eval.specs.Standing.{fresh}
+use Rattle.eval.specs.Lists.{any}
+use Rattle.eval.specs.Structure.{Structure, elements, hasPair, successorsOf, inverse}
+use Rattle.eval.specs.Judge.{judge, judgeOf, someFrom, truth, Right, decided}
 use Rattle.eval.specs.Truth.{Choice, ext, extOf, plain, plainOf}
 use Rattle.eval.proofs.Falling.{falling}
 use Rattle.eval.proofs.ListLaws.{every-at}
@@ -33,7 +36,7 @@ module _ (D : Deck) (W : Sound D) (S : Structure) where
   module _ (χ : Choice) where
     right-of : (c : ℕ) (k : Concept) → ConceptFits (countsIn D) c k → ((o : ℕ) → o < c → (e : ℕ) → Right (judge D S o e) (ext D S χ o e)) → (e : ℕ)
         → Right (judgeOf D S k (judge D S) e) (extOf D S χ c k (ext D S χ) e)
-    unfolding judgeOf extOf successors
+    unfolding judgeOf extOf
     right-of c Concept.Top h ih e = refl
     right-of c Concept.Bot h ih e = refl
     right-of c (Concept.Atomic k) h ih e = truth-right (S .member e k)
@@ -42,9 +45,11 @@ module _ (D : Deck) (W : Sound D) (S : Structure) where
     right-of c (Concept.Not b) h ih e = tt
     right-of c (Concept.And l) h ih e = and-is-right (λ o. judge D S o e) (λ o. ext D S χ o e) l (λ o m. ih o (each-below c l h o m) e)
     right-of c (Concept.Or l) h ih e = tt
-    right-of c (Concept.Some (Role.Named r) b) h ih e =
-        rw (← any-keep (hasEdge D S r e) (ext D S χ b) (elements S)) (some-is-right (judge D S b) (ext D S χ b) (keep (hasEdge D S r e) (elements S)) (λ t m. ih b (h .1) t))
-    right-of c (Concept.Some (Role.Inverse r) b) h ih e = tt
+    right-of c (Concept.Some r b) h ih e = go (inverse r)
+      where
+        go : (n : Bool) → Right (cond n (Unresolved 8) (someFrom (judge D S b) fresh (successorsOf D S r e))) (cond n (χ .sets c e) (any (map (λ t. hasPair D S r e t && ext D S χ b t) (elements S))))
+        go true = tt
+        go false = rw (← any-keep (hasPair D S r e) (ext D S χ b) (elements S)) (some-is-right (judge D S b) (ext D S χ b) (successorsOf D S r e) (λ t m. ih b (h .1) t))
     right-of c (Concept.All r b) h ih e = tt
     right-of c (Concept.Min m r b) h ih e = tt
     right-of c (Concept.Max m r b) h ih e = tt
@@ -55,7 +60,7 @@ module _ (D : Deck) (W : Sound D) (S : Structure) where
   -- ---- a plain concept is decided
   settled-of : (c : ℕ) (k : Concept) → ConceptFits (countsIn D) c k → ((o : ℕ) → o < c → plain D o ≡ true → (e : ℕ) → decided (judge D S o e) ≡ true) → plainOf k (plain D) ≡ true → (e : ℕ)
       → decided (judgeOf D S k (judge D S) e) ≡ true
-  unfolding judgeOf plainOf successors
+  unfolding judgeOf plainOf
   settled-of c Concept.Top h ih p e = refl
   settled-of c Concept.Bot h ih p e = refl
   settled-of c (Concept.Atomic k) h ih p e = truth-decided (S .member e k)
@@ -64,8 +69,9 @@ module _ (D : Deck) (W : Sound D) (S : Structure) where
   settled-of c (Concept.Not b) h ih p e = clash (cc)
   settled-of c (Concept.And l) h ih p e = and-decided (λ o. judge D S o e) l (λ o m. ih o (each-below c l h o m) (every-at (plain D) l o p m) e)
   settled-of c (Concept.Or l) h ih p e = clash (cc)
-  settled-of c (Concept.Some (Role.Named r) b) h ih p e = some-decided (judge D S b) (keep (hasEdge D S r e) (elements S)) (λ t m. ih b (h .1) p t)
-  settled-of c (Concept.Some (Role.Inverse r) b) h ih p e = clash (cc)
+  settled-of c (Concept.Some r b) h ih p e =
+      let q = both-true (not (inverse r)) (plain D b) p in
+      rw (not-true (inverse r) (q .0)) (some-decided (judge D S b) (successorsOf D S r e) (λ t m. ih b (h .1) (q .1) t))
   settled-of c (Concept.All r b) h ih p e = clash (cc)
   settled-of c (Concept.Min m r b) h ih p e = clash (cc)
   settled-of c (Concept.Max m r b) h ih p e = clash (cc)

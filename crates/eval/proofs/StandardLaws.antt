@@ -6,19 +6,18 @@
 --     all-satisfied       where every axiom Holds, the structure satisfies them all
 -- Assumes nothing.
 use Prim.Native.Nat.{ℕ, _<_}
-use mathlib.Core.Bool.{Bool, false, not, _||_}
+use mathlib.Core.Bool.{Bool, true, false, cond}
 use mathlib.Core.Path.{_≡_, refl, sym, ap, _∙_, fun-ext}
-use mathlib.Core.List.{List, map}
-use lib.Dec.{leb}
-use Rattle.deck.specs.Deck.{Deck, Role, Concept, Axiom, conceptAt, axiomCount, axiomAt}
+use mathlib.Core.List.{map}
+use Rattle.deck.specs.Deck.{Deck, Concept, Axiom, conceptAt, axiomCount, axiomAt}
 use Rattle.deck.specs.Sound.{Sound, ConceptFits, countsIn}
 use Rattle.eval.specs.declared.verdict.Witnesses.{Witnesses}
 use Rattle.eval.specs.declared.verdict.Verdict.the-variants.{Holds, Fails}
 use Rattle.eval.specs.Lists.{every, any}
-use Rattle.eval.specs.Structure.{Structure, elements, hasEdge, hasPair}
+use Rattle.eval.specs.Structure.{Structure, inverse}
 use Rattle.eval.specs.Verdict.{verdict, witnessesOf}
 use Rattle.eval.specs.Truth.{ext, extOf, FalseAt, Proper}
-use Rattle.eval.specs.Standard.{setOf, inSet, standard, reaches, Satisfied, AllSatisfied}
+use Rattle.eval.specs.Standard.{setOf, inSet, standard, Satisfied, AllSatisfied}
 use Rattle.eval.proofs.Falling.{falling, numbered-at}
 use Rattle.eval.proofs.ListLaws.{map-same}
 use Rattle.eval.proofs.Steps.{fits, each-below, ext-at}
@@ -26,6 +25,10 @@ use Rattle.eval.proofs.Soundness.{holds-true, fails-false}
 
 pub standard-proper : (D : Deck) (S : Structure) (ι : ℕ → ℕ) → ((i : ℕ) → 0 < S .size → ι i < S .size) → Proper S (standard D S ι)
 standard-proper D S ι h = h
+
+either-way : (b : Bool) {x y z : Bool} → x ≡ z → y ≡ z → cond b x y ≡ z
+either-way true p q = p
+either-way false p q = q
 
 module _ (D : Deck) (W : Sound D) (S : Structure) (ι : ℕ → ℕ) where
   -- a construct asks its operands only
@@ -60,8 +63,7 @@ module _ (D : Deck) (W : Sound D) (S : Structure) (ι : ℕ → ℕ) where
   step c (Concept.Not b) h s f q x = ap (λ (p : ℕ → Bool). p x) s
   step c (Concept.And l) h s f q x = ap every (map-same (λ o. f o x) (λ o. inSet D S ι o x) l (λ o m. ap (λ (p : ℕ → Bool). p x) (q o (each-below c l h o m))))
   step c (Concept.Or l) h s f q x = ap (λ (p : ℕ → Bool). p x) s
-  step c (Concept.Some (Role.Named r) b) h s f q x = rw (q b (h .1))
-  step c (Concept.Some (Role.Inverse r) b) h s f q x = ap (λ (p : ℕ → Bool). p x) s
+  step c (Concept.Some r b) h s f q x = either-way (inverse r) (ap (λ (p : ℕ → Bool). p x) s) (rw (q b (h .1)))
   step c (Concept.All r b) h s f q x = ap (λ (p : ℕ → Bool). p x) s
   step c (Concept.Min m r b) h s f q x = ap (λ (p : ℕ → Bool). p x) s
   step c (Concept.Max m r b) h s f q x = ap (λ (p : ℕ → Bool). p x) s

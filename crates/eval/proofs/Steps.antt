@@ -6,7 +6,7 @@ use mathlib.Core.List.{List, [], _∷_, List·Memᴰ as Member, List·Memᴰ·he
 use lib.Dec.{ltb}
 use borrow.Author.Tests.{ltb-true, ltb-false}
 use lib.ListN.{List·getD-eq-default}
-use Rattle.deck.specs.Deck.{Deck, Role, Concept, conceptAt, conceptCount}
+use Rattle.deck.specs.Deck.{Deck, Concept, conceptAt, conceptCount}
 use Rattle.deck.specs.Sound.{Sound, ConceptFits, countsIn, EachBelow}
 use Rattle.eval.specs.declared.judgement.Judgement.{Judgement}
 use Rattle.eval.specs.declared.judgement.Judgement.the-variants.{False}
@@ -48,8 +48,7 @@ module _ (D : Deck) (W : Sound D) where
     judge-same c (Concept.Not b) h f g q e = refl
     judge-same c (Concept.And l) h f g q e = and-same (λ o. f o e) (λ o. g o e) fresh l (λ o m. ap (λ (j : ℕ → Judgement). j e) (q o (each-below c l h o m)))
     judge-same c (Concept.Or l) h f g q e = refl
-    judge-same c (Concept.Some (Role.Named r) b) h f g q e = rw (q b (h .1))
-    judge-same c (Concept.Some (Role.Inverse r) b) h f g q e = refl
+    judge-same c (Concept.Some r b) h f g q e = rw (q b (h .1))
     judge-same c (Concept.All r b) h f g q e = refl
     judge-same c (Concept.Min m r b) h f g q e = refl
     judge-same c (Concept.Max m r b) h f g q e = refl
@@ -72,8 +71,7 @@ module _ (D : Deck) (W : Sound D) where
     ext-same χ c (Concept.Not b) h f g q e = refl
     ext-same χ c (Concept.And l) h f g q e = ap every (map-same (λ o. f o e) (λ o. g o e) l (λ o m. ap (λ (j : ℕ → Bool). j e) (q o (each-below c l h o m))))
     ext-same χ c (Concept.Or l) h f g q e = refl
-    ext-same χ c (Concept.Some (Role.Named r) b) h f g q e = rw (q b (h .1))
-    ext-same χ c (Concept.Some (Role.Inverse r) b) h f g q e = refl
+    ext-same χ c (Concept.Some r b) h f g q e = rw (q b (h .1))
     ext-same χ c (Concept.All r b) h f g q e = refl
     ext-same χ c (Concept.Min m r b) h f g q e = refl
     ext-same χ c (Concept.Max m r b) h f g q e = refl
@@ -92,8 +90,7 @@ module _ (D : Deck) (W : Sound D) where
   plain-same c (Concept.Not b) h f g q = refl
   plain-same c (Concept.And l) h f g q = ap every (map-same f g l (λ o m. q o (each-below c l h o m)))
   plain-same c (Concept.Or l) h f g q = refl
-  plain-same c (Concept.Some (Role.Named r) b) h f g q = q b (h .1)
-  plain-same c (Concept.Some (Role.Inverse r) b) h f g q = refl
+  plain-same c (Concept.Some r b) h f g q = rw (q b (h .1))
   plain-same c (Concept.All r b) h f g q = refl
   plain-same c (Concept.Min m r b) h f g q = refl
   plain-same c (Concept.Max m r b) h f g q = refl

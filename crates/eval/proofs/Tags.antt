@@ -5,11 +5,11 @@
 --     some-any      so a Some comes to the same over its successors in any order, with repeats
 --     some-part     and a part of them that does not come to False decides for all
 use Prim.Native.Nat.{ℕ, _<_}
-use mathlib.Core.Bool.{Bool, true, false, cond, _&&_}
+use mathlib.Core.Bool.{Bool, true, false, cond, not, _&&_}
 use mathlib.Core.Path.{_≡_, refl, sym, _∙_}
 use mathlib.Core.List.{List, [], _∷_, map, List·Memᴰ as Member, List·Memᴰ·head as here, List·Memᴰ·tail as there}
 use Rattle.eval.proofs.Clash.{clash}
-use Rattle.deck.specs.Deck.{Deck, Role, Concept, conceptAt}
+use Rattle.deck.specs.Deck.{Deck, Concept, conceptAt}
 use Rattle.deck.specs.Sound.{Sound, ConceptFits, countsIn}
 use Rattle.eval.specs.declared.judgement.Judgement.{Judgement}
 use Rattle.eval.specs.declared.judgement.Judgement.the-variants.{False, True, Unresolved}
@@ -17,7 +17,7 @@ use Rattle.eval.specs.declared.standing.Standing.{Standing}
 use Rattle.eval.specs.Standing.{fresh, andNext}
 use Rattle.eval.specs.Numbered.{numbered}
 use Rattle.eval.specs.Lists.{every}
-use Rattle.eval.specs.Structure.{Structure, successors}
+use Rattle.eval.specs.Structure.{Structure, successorsOf, inverse}
 use Rattle.eval.specs.Judge.{judge, judgeOf, truth, andFrom, someFrom, decided}
 use Rattle.eval.specs.Truth.{plain, plainOf}
 use Rattle.eval.proofs.Falling.{falling, numbered-at}
@@ -40,8 +40,7 @@ openTagOf D (Concept.SelfRestriction r) f = 4
 openTagOf D (Concept.Not b) f = 5
 openTagOf D (Concept.And l) f = lastOpen (plain D) f 0 l
 openTagOf D (Concept.Or l) f = 7
-openTagOf D (Concept.Some (Role.Named r) b) f = f b
-openTagOf D (Concept.Some (Role.Inverse r) b) f = 8
+openTagOf D (Concept.Some r b) f = cond (inverse r) 8 (f b)
 openTagOf D (Concept.All r b) f = 9
 openTagOf D (Concept.Min m r b) f = 10
 openTagOf D (Concept.Max m r b) f = 11
@@ -114,8 +113,7 @@ module _ (D : Deck) (W : Sound D) where
   tag-same c (Concept.Not b) h f g q = refl
   tag-same c (Concept.And l) h f g q = last-same (plain D) f g 0 l (λ o m. q o (each-below c l h o m))
   tag-same c (Concept.Or l) h f g q = refl
-  tag-same c (Concept.Some (Role.Named r) b) h f g q = q b (h .1)
-  tag-same c (Concept.Some (Role.Inverse r) b) h f g q = refl
+  tag-same c (Concept.Some r b) h f g q = rw (q b (h .1))
   tag-same c (Concept.All r b) h f g q = refl
   tag-same c (Concept.Min m r b) h f g q = refl
   tag-same c (Concept.Max m r b) h f g q = refl
@@ -136,9 +134,11 @@ module _ (D : Deck) (W : Sound D) where
     never-of c (Concept.Not b) h ih p e q = clash (cc)
     never-of c (Concept.And l) h ih p e q = let y = and-each (λ o. judge D S o e) (plain D) fresh l q (λ o m r. ih o (each-below c l h o m) r e) in clash (cc)
     never-of c (Concept.Or l) h ih p e q = clash (cc)
-    never-of c (Concept.Some (Role.Named r) b) h ih p e q =
-        some-case (judge D S b) (λ j. j ≡ True → ⊥) (successors D S r e) (λ x m t i. ih b (h .1) p x t) (λ x t m u a i. clash (cc)) (λ a i. clash (cc)) q
-    never-of c (Concept.Some (Role.Inverse r) b) h ih p e q = clash (cc)
+    never-of c (Concept.Some r b) h ih p e q = go (inverse r) p q
+      where
+        go : (n : Bool) → (not n && plain D b) ≡ false → cond n (Unresolved 8) (someFrom (judge D S b) fresh (successorsOf D S r e)) ≡ True → ⊥
+        go true p q = clash (cc)
+        go false p q = some-case (judge D S b) (λ j. j ≡ True → ⊥) (successorsOf D S r e) (λ x m t i. ih b (h .1) p x t) (λ x t m u a i. clash (cc)) (λ a i. clash (cc)) q
     never-of c (Concept.All r b) h ih p e q = clash (cc)
     never-of c (Concept.Min m r b) h ih p e q = clash (cc)
     never-of c (Concept.Max m r b) h ih p e q = clash (cc)
@@ -172,9 +172,11 @@ module _ (D : Deck) (W : Sound D) where
     tag-of c (Concept.And l) h ih e t q =
         and-tag (λ o. judge D S o e) (plain D) (openTag D) fresh l t q (λ o m p. never-true o p e) (λ o m p. settled D W S o p e) (λ o u m. ih o (each-below c l h o m) e u)
     tag-of c (Concept.Or l) h ih e t q = cc
-    tag-of c (Concept.Some (Role.Named r) b) h ih e t q =
-        some-case (judge D S b) (λ j. j ≡ Unresolved t → t ≡ openTag D b) (successors D S r e) (λ x m u i. clash (cc)) (λ x u m v a i. ih b (h .1) x t (v ∙ i)) (λ a i. clash (cc)) q
-    tag-of c (Concept.Some (Role.Inverse r) b) h ih e t q = cc
+    tag-of c (Concept.Some r b) h ih e t q = go (inverse r) q
+      where
+        go : (n : Bool) → cond n (Unresolved 8) (someFrom (judge D S b) fresh (successorsOf D S r e)) ≡ Unresolved t → t ≡ cond n 8 (openTag D b)
+        go true q = cc
+        go false q = some-case (judge D S b) (λ j. j ≡ Unresolved t → t ≡ openTag D b) (successorsOf D S r e) (λ x m u i. clash (cc)) (λ x u m v a i. ih b (h .1) x t (v ∙ i)) (λ a i. clash (cc)) q
     tag-of c (Concept.All r b) h ih e t q = cc
     tag-of c (Concept.Min m r b) h ih e t q = cc
     tag-of c (Concept.Max m r b) h ih e t q = cc

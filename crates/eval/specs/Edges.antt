@@ -1,12 +1,13 @@
 -- The lent list of edges: "In the port edges lie in one lent list of records, oldest first (role, from, to); a bucket is its role's part."
 use Prim.Native.Nat.{ℕ, _+_, _*_}
-use mathlib.Core.Bool.{Bool, _&&_}
+use mathlib.Core.Bool.{Bool, cond, _&&_}
 use mathlib.Core.List.{List, [], _∷_, map}
 use lib.ListN.{getD, take}
 use lib.Dec.{eqb}
-use Rattle.deck.specs.Deck.{Deck, roleAt, has}
+use Rattle.deck.specs.Deck.{Deck, Role, roleAt, has}
 use Rattle.eval.specs.declared.edges.Edge.{Edge}
 use Rattle.eval.specs.Lists.{any}
+use Rattle.eval.specs.Structure.{inverse}
 
 -- a row of the list, and the row of an edge
 abbrev pub edgeOf : List ℕ → Edge
@@ -25,6 +26,10 @@ isEdge q x y e = eqb (e .role .0) q && (eqb (e .from .0) x && eqb (e .to .0) y)
 
 unfoldable pub edgeIn : List Edge → ℕ → ℕ → ℕ → Bool
 edgeIn es q x y = any (map (isEdge q x y) es)
+
+-- an edge as a role word sees it: "turned if inverse"
+abbrev pub turned : Role → Edge → Edge
+turned r e = record { role = e .role; from = cond (inverse r) (e .to) (e .from); to = cond (inverse r) (e .from) (e .to) }
 
 -- is the edge's role a sub-role of r?
 abbrev pub under : Deck → ℕ → Edge → Bool

@@ -1,15 +1,15 @@
 -- Judging a concept at an element (`eval_concept`): document 01, section 4.
 use Prim.Native.Nat.{ℕ}
-use mathlib.Core.Bool.{Bool, true, false}
+use mathlib.Core.Bool.{Bool, true, false, cond}
 use mathlib.Core.Path.{_≡_}
 use mathlib.Core.List.{List, [], _∷_}
-use Rattle.deck.specs.Deck.{Deck, Role, Concept, conceptAt}
+use Rattle.deck.specs.Deck.{Deck, Concept, conceptAt}
 use Rattle.eval.specs.declared.judgement.Judgement.{Judgement}
 use Rattle.eval.specs.declared.judgement.Judgement.the-variants.{False, True, Unresolved}
 use Rattle.eval.specs.declared.standing.Standing.{Standing}
 use Rattle.eval.specs.Standing.{fresh, andNext, someNext, andClose, someClose}
 use Rattle.eval.specs.Numbered.{numbered}
-use Rattle.eval.specs.Structure.{Structure, successors}
+use Rattle.eval.specs.Structure.{Structure, successorsOf, inverse}
 
 abbrev pub truth : Bool → Judgement
 truth true = True
@@ -35,8 +35,7 @@ judgeOf D S (Concept.SelfRestriction r) f e = Unresolved 4
 judgeOf D S (Concept.Not b) f e = Unresolved 5
 judgeOf D S (Concept.And l) f e = andFrom (λ o. f o e) fresh l
 judgeOf D S (Concept.Or l) f e = Unresolved 7
-judgeOf D S (Concept.Some (Role.Named r) b) f e = someFrom (f b) fresh (successors D S r e)
-judgeOf D S (Concept.Some (Role.Inverse r) b) f e = Unresolved 8
+judgeOf D S (Concept.Some r b) f e = cond (inverse r) (Unresolved 8) (someFrom (f b) fresh (successorsOf D S r e))
 judgeOf D S (Concept.All r b) f e = Unresolved 9
 judgeOf D S (Concept.Min m r b) f e = Unresolved 10
 judgeOf D S (Concept.Max m r b) f e = Unresolved 11

@@ -18,9 +18,17 @@ elements S = range 0 (S .size)
 unfoldable pub hasEdge : Deck → Structure → ℕ → ℕ → ℕ → Bool
 hasEdge D S r x y = any (map (λ q. S .edge q x y) (roleAt D r .subRoles))
 
--- "successors are their targets, rising"
+-- "the pairs of a role word are its role's edges as in section 4, turned if inverse"
+abbrev pub hasPair : Deck → Structure → Role → ℕ → ℕ → Bool
+hasPair D S (Role.Named r) x y = hasEdge D S r x y
+hasPair D S (Role.Inverse r) x y = hasEdge D S r y x
+
+-- "successors are their targets, rising", for a role word and for a role
+abbrev pub successorsOf : Deck → Structure → Role → ℕ → List ℕ
+successorsOf D S r x = keep (hasPair D S r x) (elements S)
+
 unfoldable pub successors : Deck → Structure → ℕ → ℕ → List ℕ
-successors D S r x = keep (hasEdge D S r x) (elements S)
+successors D S r x = successorsOf D S (Role.Named r) x
 
 pub record Pair : Type 0 where
   pub from : ℕ
@@ -32,11 +40,6 @@ pair x y = record { from = x; to = y }
 -- the edges of r "by from then to"
 unfoldable pub pairs : Deck → Structure → ℕ → List Pair
 pairs D S r = flatMap (λ x. map (pair x) (successors D S r x)) (elements S)
-
--- "the pairs of a role word are its role's edges as in section 4, turned if inverse"
-abbrev pub hasPair : Deck → Structure → Role → ℕ → ℕ → Bool
-hasPair D S (Role.Named r) x y = hasEdge D S r x y
-hasPair D S (Role.Inverse r) x y = hasEdge D S r y x
 
 -- is a role word inverse?
 abbrev pub inverse : Role → Bool

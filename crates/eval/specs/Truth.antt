@@ -1,6 +1,6 @@
 -- What a concept and an axiom mean in a structure, under a choice for what is left open: document 01, section 5, and W3C OWL 2 Direct Semantics.
 use Prim.Native.Nat.{ℕ, suc, _<_}
-use mathlib.Core.Bool.{Bool, true, false, not, _&&_}
+use mathlib.Core.Bool.{Bool, true, false, cond, not, _&&_}
 use mathlib.Core.Path.{_≡_}
 use mathlib.Core.Logic.{_⊎_, _≢_}
 use mathlib.Core.List.{List, [], _∷_, map, Sublistᴰ}
@@ -9,7 +9,7 @@ use lib.ListN.{length, getD}
 use Rattle.deck.specs.Deck.{Deck, Role, Concept, Axiom, conceptAt}
 use Rattle.eval.specs.Numbered.{numbered}
 use Rattle.eval.specs.Lists.{every, any}
-use Rattle.eval.specs.Structure.{Structure, elements, hasEdge, hasPair, inverse, anyInverse}
+use Rattle.eval.specs.Structure.{Structure, elements, hasPair, inverse, anyInverse}
 
 -- "A choice gives each unresolved concept number any set of elements, each individual any element, if there is one."
 -- The paper's choices are the proper ones. What is shown of every choice is shown of more: where a number past the elements stands
@@ -33,8 +33,7 @@ extOf D S χ c (Concept.SelfRestriction r) f e = χ .sets c e
 extOf D S χ c (Concept.Not b) f e = χ .sets c e
 extOf D S χ c (Concept.And l) f e = every (map (λ o. f o e) l)
 extOf D S χ c (Concept.Or l) f e = χ .sets c e
-extOf D S χ c (Concept.Some (Role.Named r) b) f e = any (map (λ t. hasEdge D S r e t && f b t) (elements S))
-extOf D S χ c (Concept.Some (Role.Inverse r) b) f e = χ .sets c e
+extOf D S χ c (Concept.Some r b) f e = cond (inverse r) (χ .sets c e) (any (map (λ t. hasPair D S r e t && f b t) (elements S)))
 extOf D S χ c (Concept.All r b) f e = χ .sets c e
 extOf D S χ c (Concept.Min m r b) f e = χ .sets c e
 extOf D S χ c (Concept.Max m r b) f e = χ .sets c e
@@ -53,8 +52,7 @@ plainOf (Concept.SelfRestriction r) f = false
 plainOf (Concept.Not b) f = false
 plainOf (Concept.And l) f = every (map f l)
 plainOf (Concept.Or l) f = false
-plainOf (Concept.Some (Role.Named r) b) f = f b
-plainOf (Concept.Some (Role.Inverse r) b) f = false
+plainOf (Concept.Some r b) f = not (inverse r) && f b
 plainOf (Concept.All r b) f = false
 plainOf (Concept.Min m r b) f = false
 plainOf (Concept.Max m r b) f = false

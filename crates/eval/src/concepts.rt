@@ -1,16 +1,15 @@
 // Judging a concept at an element. Judging a concept calls on judging a list, and that on judging a concept: the concept
 // number falls, and within a list what is left of it.
 ghost use mathlib.Core.Path.{_≡_};
-ghost use Prim.Native.Nat.{_<_};
+ghost use Prim.Native.Nat.{_*_, _<_};
 ghost use Rattle.deck.specs.Content.{deckOf};
-ghost use Rattle.deck.specs.Deck.{conceptCount, roleCount};
+ghost use Rattle.deck.specs.Deck.{conceptCount, roleCount, roleOf};
 ghost use Rattle.deck.specs.Reads.{listOf, ListFits};
-ghost use Rattle.eval.specs.Edges.{leaves};
 ghost use Rattle.eval.specs.Judge.{truth, judge, andFrom, someFrom};
 ghost use Rattle.eval.specs.Lent.{Fits, structureOf};
 ghost use Rattle.eval.specs.Standing.{fresh};
-ghost use Rattle.eval.specs.Structure.{successors};
-use crate::edges::edge_at;
+ghost use Rattle.eval.specs.Structure.{successorsOf};
+use crate::edges::edge_by;
 use crate::edges::leaves_by;
 use crate::judgement::Judgement;
 use crate::labels::has_class;
@@ -20,7 +19,7 @@ use deck::concepts::ConceptExpr;
 use deck::concepts::concept_at;
 use deck::numbers::ConceptId;
 use deck::numbers::Element;
-use deck::numbers::RoleId;
+use deck::numbers::RoleWord;
 use deck::rows::Span;
 use deck::rows::item;
 
@@ -64,7 +63,7 @@ pub fn eval_concept(
             if role.is_inverse() {
                 return Judgement::Unresolved(8);
             }
-            eval_some(deck, labels, edges, shape, role.role_id(), body, e)
+            eval_some(deck, labels, edges, shape, role, body, e)
         }
         ConceptExpr::All(_, _) => Judgement::Unresolved(9),
         ConceptExpr::Min(_, _, _) => Judgement::Unresolved(10),
@@ -103,26 +102,27 @@ fn eval_and(
     standing.close_and()
 }
 
-// Has e a successor by r that is in `body`? One walk over the edges, in their own order.
+// Has e a successor by the role word that is in `body`? One walk over the edges, in their own order.
 fn eval_some(
     deck: &[u8],
     labels: &[u64],
     edges: &[[u32; 3]],
     shape: Shape,
-    r: RoleId,
+    role: RoleWord,
     body: ConceptId,
     e: Element,
 ) -> Judgement
     requires { ⌜ Fits (now deck) (now labels) (now edges) shape ⌝ }
-    requires { ⌜ r .0 < roleCount (deckOf (now deck)) ⌝ }
+    requires { ⌜ role .0 < 2 * roleCount (deckOf (now deck)) ⌝ }
     requires { ⌜ body .0 < conceptCount (deckOf (now deck)) ⌝ }
-    ensures { λ j. ⌜ j ≡ someFrom (judge (deckOf (now (deck .entry))) (structureOf (deckOf (now (deck .entry))) (now (labels .entry)) (now (edges .entry)) shape) (body .0)) fresh (successors (deckOf (now (deck .entry))) (structureOf (deckOf (now (deck .entry))) (now (labels .entry)) (now (edges .entry)) shape) (r .0) (e .0)) ⌝ }
+    ensures { λ j. ⌜ j ≡ someFrom (judge (deckOf (now (deck .entry))) (structureOf (deckOf (now (deck .entry))) (now (labels .entry)) (now (edges .entry)) shape) (body .0)) fresh (successorsOf (deckOf (now (deck .entry))) (structureOf (deckOf (now (deck .entry))) (now (labels .entry)) (now (edges .entry)) shape) (roleOf (role .0)) (e .0)) ⌝ }
 {
     let count = shape.edges as usize;
+    let r = role.role_id();
     let mut standing = Standing::new();
     let mut i = 0;
     while i < count {
-        let edge = edge_at(edges, i);
+        let edge = edge_by(edges, i, role);
         i += 1;
         if !leaves_by(deck, edge, r, e) {
             continue;

@@ -1,13 +1,14 @@
-// The lent list of edges: only edge_at reads a row of it.
+// The lent list of edges: only edge_at reads a row of it, and only edge_by turns an edge.
 ghost use mathlib.Core.Path.{_≡_};
 ghost use mathlib.Core.List.{[]};
 ghost use Prim.Native.Nat.{_<_, _≤_};
 ghost use lib.ListN.{length, getD};
 ghost use Rattle.deck.specs.Content.{IsAccepted, deckOf};
-ghost use Rattle.deck.specs.Deck.{roleCount, roleAt, has};
-ghost use Rattle.eval.specs.Edges.{edgeOf, edgesOf, goes, leaves, linked, under};
+ghost use Rattle.deck.specs.Deck.{roleCount, roleOf};
+ghost use Rattle.eval.specs.Edges.{edgeOf, edgesOf, goes, leaves, linked, turned, under};
 use deck::numbers::Element;
 use deck::numbers::RoleId;
+use deck::numbers::RoleWord;
 use deck::roles;
 use deck::rows;
 
@@ -27,6 +28,25 @@ pub fn edge_at(edges: &[[u32; 3]], i: usize) -> Edge
         from: Element(e[1]),
         to: Element(e[2]),
     }
+}
+
+// An edge as a role word sees it: turned if the word is inverse.
+pub fn edge_by(edges: &[[u32; 3]], i: usize, word: RoleWord) -> Edge
+    requires { ⌜ i < length (now edges) ⌝ }
+    ensures { λ r. ⌜ r ≡ turned (roleOf (word .0)) (edgeOf (getD (now (edges .entry)) i [])) ⌝ }
+{
+    let e = edge_at(edges, i);
+    let role = e.role;
+    let from = e.from;
+    let to = e.to;
+    if word.is_inverse() {
+        return Edge {
+            role: role,
+            from: to,
+            to: from,
+        };
+    }
+    e
 }
 
 // Is the edge's role a sub-role of r?

@@ -7,18 +7,19 @@ use borrow.Author.Tests.{not-true, not-false}
 use denote.Ref.{now}
 use mathlib.Core.Path.{_≡_, refl, sym, ap, _∙_}
 use lib.ListN.{length, getD, drop}
+use Rattle.deck.specs.Deck.{roleOf}
 use Rattle.deck.specs.Content.{deckOf}
 use Rattle.deck.specs.Reads.{listOf}
 use Rattle.deck.proofs.TableLaws.{list-length}
 use Rattle.eval.specs.declared.judgement.Judgement.{Judgement}
-use Rattle.eval.specs.Edges.{edgesOf, leaves}
+use Rattle.eval.specs.Edges.{edgesOf}
 use Rattle.eval.specs.Judge.{judge, judgeOf, truth, andFrom, someFrom}
 use Rattle.eval.specs.Lent.{structureOf}
 use Rattle.eval.specs.Standing.{fresh}
 use Rattle.eval.proofs.Walks.{and-end, and-step, and-stop}
 use Rattle.eval.proofs.Hits.{hits, hits-end, hits-skip, hits-step, hits-stop}
-use Rattle.eval.proofs.EdgeWalks.{noEdge, edges-length, edges-at}
-use Rattle.eval.proofs.LentLaws.{target, some-walk, judge-read, fits-read, some-named, some-inverse}
+use Rattle.eval.proofs.EdgeWalks.{noEdge, edges-length}
+use Rattle.eval.proofs.LentLaws.{leavesBy, targetBy, some-walk, edge-led, edge-leaves, edge-led-in, judge-read, fits-read, some-named, some-inverse}
 use borrow.Fn.Kinds.{In}
 use borrow.Fn.PlainCycle.{Measures, is, falls, and}
 use Rattle.eval.proofs.concepts.eval_and.Reads as eval-and
@@ -35,7 +36,7 @@ use Rattle.deck.proofs.numbers.RoleWord.is_inverse.Reads as is-inverse-reads
 use Rattle.deck.proofs.numbers.RoleWord.role_id.Reads as role-id-reads
 use Rattle.deck.proofs.rows.item.Reads as item-reads
 use Rattle.eval.proofs.concepts.truth_of.Reads as truth-of-reads
-use Rattle.eval.proofs.edges.edge_at.Reads as edge-at-reads
+use Rattle.eval.proofs.edges.edge_by.Reads as edge-by-reads
 use Rattle.eval.proofs.edges.leaves_by.Reads as leaves-by-reads
 use Rattle.eval.proofs.labels.has_class.Reads as has-class-reads
 use Rattle.eval.proofs.standing.Standing.and.Reads as and-reads
@@ -85,10 +86,10 @@ abbrev eval-and-claims : ℕ → eval-and-lts.Claims
 eval-and-claims t = (new-reads.Asked, new-reads.Learnt, item-reads.Asked, item-reads.Learnt, eval-concept-below t, eval-concept.Post, and-reads.Asked, and-reads.Learnt, close-and-reads.Asked, close-and-reads.Learnt)
 
 abbrev eval-concept-claims : ℕ → eval-concept-lts.Claims
-eval-concept-claims t = (concept-at-reads.Asked, concept-at-reads.Learnt, has-class-reads.Asked, has-class-reads.Learnt, truth-of-reads.Asked, truth-of-reads.Learnt, eval-and-below t, eval-and.Post, is-inverse-reads.Asked, is-inverse-reads.Learnt, role-id-reads.Asked, role-id-reads.Learnt, eval-some-below t, eval-some.Post)
+eval-concept-claims t = (concept-at-reads.Asked, concept-at-reads.Learnt, has-class-reads.Asked, has-class-reads.Learnt, truth-of-reads.Asked, truth-of-reads.Learnt, eval-and-below t, eval-and.Post, is-inverse-reads.Asked, is-inverse-reads.Learnt, eval-some-below t, eval-some.Post)
 
 abbrev eval-some-claims : ℕ → eval-some-lts.Claims
-eval-some-claims t = (new-reads.Asked, new-reads.Learnt, edge-at-reads.Asked, edge-at-reads.Learnt, leaves-by-reads.Asked, leaves-by-reads.Learnt, eval-concept-below t, eval-concept.Post, some-reads.Asked, some-reads.Learnt, close-some-reads.Asked, close-some-reads.Learnt)
+eval-some-claims t = (role-id-reads.Asked, role-id-reads.Learnt, new-reads.Asked, new-reads.Learnt, edge-by-reads.Asked, edge-by-reads.Learnt, leaves-by-reads.Asked, leaves-by-reads.Learnt, eval-concept-below t, eval-concept.Post, some-reads.Asked, some-reads.Learnt, close-some-reads.Asked, close-some-reads.Learnt)
 
 abbrev eval-and-Inv-loop : eval-and-lts.InvT-loop
 eval-and-Inv-loop deck labels edges shape list e count standing₀ i₀ standing i =
@@ -201,14 +202,11 @@ eval-concept-returns t c =
     let z = c .before .before .before .before .before .before .before .before in
     some-inverse _ _ _ _ (z .pre .1 .0) (z .args .concept .0) (z .args .e .0) (c .before .before .before .before .before .concept-at .ensures) _ _ (c .before .before .before .expr3 .given .1) (sym (c .before .is-inverse .ensures) ∙ c .if1 .taken)
 
-eval-concept-role-id-requires : (t : ℕ) → eval-concept-lts.Need-role-id-requires (eval-concept-claims t) (eval-concept-at t) eval-concept.Post
-eval-concept-role-id-requires t c κs = search needs
-
 eval-concept-eval-some-requires : (t : ℕ) → eval-concept-lts.Need-eval-some-requires (eval-concept-claims t) (eval-concept-at t) eval-concept.Post
 eval-concept-eval-some-requires t c κs =
-    let z = c .before .before .before .before .before .before .before .before .before in
-    let f = fits-read _ _ _ _ (z .pre .1 .0) _ (z .args .e .0) (c .before .before .before .before .before .before .concept-at .ensures) _ (c .before .before .before .before .expr3 .given .1) in
-    (omega (arith, z .pre .0, f .1), (z .pre .1 .0, (omega (arith, f .0, c .role-id .ensures), omega (arith, z .pre .1 .1 .0, f .1))))
+    let z = c .before .before .before .before .before .before .before .before in
+    let f = fits-read _ _ _ _ (z .pre .1 .0) _ (z .args .e .0) (c .before .before .before .before .before .concept-at .ensures) _ (c .before .before .before .expr3 .given .1) in
+    (omega (arith, z .pre .0, f .1), (z .pre .1 .0, (f .0, omega (arith, z .pre .1 .1 .0, f .1))))
 
 eval-concept-enum-told-7 : (t : ℕ) → eval-concept-lts.Need-enum-told-7 (eval-concept-claims t) (eval-concept-at t) eval-concept.Post
 eval-concept-enum-told-7 t c = search needs
@@ -269,8 +267,8 @@ eval-concept-returns-9 t c =
 
 eval-concept-returns-10 : (t : ℕ) → eval-concept-lts.Need-returns-10 (eval-concept-claims t) (eval-concept-at t) eval-concept.Post
 eval-concept-returns-10 t c =
-    let z = c .before .before .before .before .before .before .before .before .before .before in
-    rw (c .before .role-id .ensures) at (c .eval-some .ensures) ∙ some-named _ _ _ _ (z .pre .1 .0) (z .args .concept .0) (z .args .e .0) (c .before .before .before .before .before .before .before .concept-at .ensures) _ _ (c .before .before .before .before .before .expr3 .given .1) (sym (c .before .before .before .is-inverse .ensures) ∙ c .before .before .if1 .left)
+    let z = c .before .before .before .before .before .before .before .before .before in
+    c .eval-some .ensures ∙ some-named _ _ _ _ (z .pre .1 .0) (z .args .concept .0) (z .args .e .0) (c .before .before .before .before .before .before .concept-at .ensures) _ _ (c .before .before .before .before .expr3 .given .1) (sym (c .before .before .is-inverse .ensures) ∙ c .before .if1 .left)
 
 eval-concept-returns-11 : (t : ℕ) → eval-concept-lts.Need-returns-11 (eval-concept-claims t) (eval-concept-at t) eval-concept.Post
 unfolding judgeOf
@@ -291,17 +289,21 @@ eval-concept-returns-13 t c =
     judge-read _ _ _ _ (z .pre .1 .0) (z .args .concept .0) (z .args .e .0) (c .before .before .concept-at .ensures) _ (c .enum-told9 .given .1)
 
 abbrev eval-some-Inv-loop : eval-some-lts.InvT-loop
-eval-some-Inv-loop deck labels edges shape r body e count standing₀ i₀ standing i =
+eval-some-Inv-loop deck labels edges shape role body e count r standing₀ i₀ standing i =
     let f = judge (deckOf deck) (structureOf (deckOf deck) labels edges shape) (body .0) in
     let es = edgesOf edges (shape .edges) in
-    let p = leaves (deckOf deck) (r .0) (e .0) in
-    (i ≤ shape .edges) × (someFrom f fresh (hits p target es) ≡ someFrom f standing (hits p target (drop i es)))
+    let w = roleOf (role .0) in
+    let p = leavesBy (deckOf deck) w (e .0) in
+    (i ≤ shape .edges) × (someFrom f fresh (hits p (targetBy w) es) ≡ someFrom f standing (hits p (targetBy w) (drop i es)))
 
 abbrev eval-some-μ-loop : eval-some-lts.MeasureT-loop
-eval-some-μ-loop deck labels edges shape r body e count standing₀ i₀ standing i = shape .edges - i
+eval-some-μ-loop deck labels edges shape role body e count r standing₀ i₀ standing i = shape .edges - i
 
 eval-some-cast-count : (t : ℕ) → eval-some-lts.Need-cast-count (eval-some-claims t) (eval-some-at t) eval-some.Post eval-some-Inv-loop eval-some-μ-loop
 eval-some-cast-count t c = search needs
+
+eval-some-role-id-requires : (t : ℕ) → eval-some-lts.Need-role-id-requires (eval-some-claims t) (eval-some-at t) eval-some.Post eval-some-Inv-loop eval-some-μ-loop
+eval-some-role-id-requires t c κs = search needs
 
 eval-some-new-requires : (t : ℕ) → eval-some-lts.Need-new-requires (eval-some-claims t) (eval-some-at t) eval-some.Post eval-some-Inv-loop eval-some-μ-loop
 eval-some-new-requires t c κs = search needs
@@ -309,72 +311,73 @@ eval-some-new-requires t c κs = search needs
 eval-some-loop-holds : (t : ℕ) → eval-some-lts.Need-loop-holds (eval-some-claims t) (eval-some-at t) eval-some.Post eval-some-Inv-loop eval-some-μ-loop
 eval-some-loop-holds t c = (omega arith, rw (c .new .ensures))
 
-eval-some-edge-at-requires : (t : ℕ) → eval-some-lts.Need-edge-at-requires (eval-some-claims t) (eval-some-at t) eval-some.Post eval-some-Inv-loop eval-some-μ-loop
-eval-some-edge-at-requires t c κs = omega (arith, c .before .before .before .before .before .before .pre .1 .0 .count)
+eval-some-edge-by-requires : (t : ℕ) → eval-some-lts.Need-edge-by-requires (eval-some-claims t) (eval-some-at t) eval-some.Post eval-some-Inv-loop eval-some-μ-loop
+eval-some-edge-by-requires t c κs = omega (arith, c .before .before .before .before .before .before .before .pre .1 .0 .count)
 
 eval-some-add-i : (t : ℕ) → eval-some-lts.Need-add-i (eval-some-claims t) (eval-some-at t) eval-some.Post eval-some-Inv-loop eval-some-μ-loop
-eval-some-add-i t c = omega (arith, c .before .before .before .before .before .before .before .pre .1 .0 .count)
+eval-some-add-i t c = omega (arith, c .before .before .before .before .before .before .before .before .pre .1 .0 .count)
 
 eval-some-leaves-by-requires : (t : ℕ) → eval-some-lts.Need-leaves-by-requires (eval-some-claims t) (eval-some-at t) eval-some.Post eval-some-Inv-loop eval-some-μ-loop
-eval-some-leaves-by-requires t c κs = let z = c .before .before .before .before .before .before .before in (z .pre .1 .0 .accepted, z .pre .1 .1 .0)
+eval-some-leaves-by-requires t c κs = let z = c .before .before .before .before .before .before .before .before in (z .pre .1 .0 .accepted, omega (arith, z .pre .1 .1 .0, c .before .before .before .before .role-id .ensures))
 
 eval-some-loop-less : (t : ℕ) → eval-some-lts.Need-loop-less (eval-some-claims t) (eval-some-at t) eval-some.Post eval-some-Inv-loop eval-some-μ-loop
 eval-some-loop-less t c = omega arith
 
 eval-some-loop-again : (t : ℕ) → eval-some-lts.Need-loop-again (eval-some-claims t) (eval-some-at t) eval-some.Post eval-some-Inv-loop eval-some-μ-loop
 eval-some-loop-again t c =
-    let z = c .before .before .before .before .before .before .before .before .before in
+    let z = c .before .before .before .before .before .before .before .before .before .before in
     let rows = now (z .args .edges) in
     let n = z .args .shape .edges in
     let w = c .before .before .before .before .loop in
     let i : w .i < n = omega arith in
     let l = edges-length rows n (z .pre .1 .0 .count) in
-    let e = edges-at rows n (w .i) i (z .pre .1 .0 .count) in
-    (omega arith, w .inv .1 ∙ hits-skip _ target _ (w .standing) noEdge (edgesOf rows n) (w .i) (omega (arith, l)) (rw e (rw (c .before .before .edge-at .ensures) at (sym (c .before .leaves-by .ensures) ∙ not-true _ (c .if1 .taken)))))
+    let h = edge-leaves _ _ _ _ (z .pre .1 .0) (z .args .role .0) (w .i) i (c .before .before .edge-by .ensures) (z .args .e .0) (c .before .before .before .before .before .before .role-id .ensures) (c .before .leaves-by .ensures) in
+    (omega arith, w .inv .1 ∙ hits-skip _ (targetBy (roleOf (z .args .role .0))) _ (w .standing) noEdge (edgesOf rows n) (w .i) (omega (arith, l)) (h ∙ not-true _ (c .if1 .taken)))
 
 eval-some-eval-concept-requires : (t : ℕ) → eval-some-lts.Need-eval-concept-requires (eval-some-claims t) (eval-some-at t) eval-some.Post eval-some-Inv-loop eval-some-μ-loop
 eval-some-eval-concept-requires t c κs =
-    let z = c .before .before .before .before .before .before .before .before .before in
-    let f = z .pre .1 .0 .ends (c .before .before .before .before .loop .i) (omega arith) in
-    (omega (arith, z .pre .0), (z .pre .1 .0, (z .pre .1 .1 .1, rw (c .before .before .edge-at .ensures) (f .to))))
+    let z = c .before .before .before .before .before .before .before .before .before .before in
+    (omega (arith, z .pre .0), (z .pre .1 .0, (z .pre .1 .1 .1, edge-led-in _ _ _ _ (z .pre .1 .0) (z .args .role .0) (c .before .before .before .before .loop .i) (omega arith) (c .before .before .edge-by .ensures))))
 
 eval-some-some-requires : (t : ℕ) → eval-some-lts.Need-some-requires (eval-some-claims t) (eval-some-at t) eval-some.Post eval-some-Inv-loop eval-some-μ-loop
 eval-some-some-requires t c κs = search needs
 
 eval-some-returns : (t : ℕ) → eval-some-lts.Need-returns (eval-some-claims t) (eval-some-at t) eval-some.Post eval-some-Inv-loop eval-some-μ-loop
 eval-some-returns t c =
-    let z = c .before .before .before .before .before .before .before .before .before .before .before .before in
+    let z = c .before .before .before .before .before .before .before .before .before .before .before .before .before in
     let rows = now (z .args .edges) in
     let n = z .args .shape .edges in
     let w = c .before .before .before .before .before .before .before .loop in
     let i : w .i < n = omega arith in
     let l = edges-length rows n (z .pre .1 .0 .count) in
-    let e = edges-at rows n (w .i) i (z .pre .1 .0 .count) in
-    hits-stop _ target _ (w .standing) noEdge (edgesOf rows n) (w .i) (omega (arith, l)) (rw e (rw (c .before .before .before .before .before .edge-at .ensures) at (sym (c .before .before .before .before .leaves-by .ensures) ∙ not-false _ (c .before .before .before .if1 .left)))) (rw (c .before .before .before .before .before .edge-at .ensures ∙ sym e) at (c .before .before .eval-concept .ensures)) (c .before .some .ensures) (c .if2 .taken) ∙ sym (w .inv .1) ∙ some-walk _ _ _ _ (z .pre .1 .0) (z .args .r .0) (z .args .e .0) (z .args .body .0)
+    let h = edge-leaves _ _ _ _ (z .pre .1 .0) (z .args .role .0) (w .i) i (c .before .before .before .before .before .edge-by .ensures) (z .args .e .0) (c .before .before .before .before .before .before .before .before .before .role-id .ensures) (c .before .before .before .before .leaves-by .ensures) in
+    let v = edge-led _ _ _ _ (z .pre .1 .0) (z .args .role .0) (w .i) i (c .before .before .before .before .before .edge-by .ensures) in
+    hits-stop _ (targetBy (roleOf (z .args .role .0))) _ (w .standing) noEdge (edgesOf rows n) (w .i) (omega (arith, l)) (h ∙ not-false _ (c .before .before .before .if1 .left)) (rw v at (c .before .before .eval-concept .ensures)) (c .before .some .ensures) (c .if2 .taken) ∙ sym (w .inv .1) ∙ some-walk _ _ _ _ (z .pre .1 .0) (roleOf (z .args .role .0)) (z .args .e .0) (z .args .body .0)
 
 eval-some-loop-less-2 : (t : ℕ) → eval-some-lts.Need-loop-less-2 (eval-some-claims t) (eval-some-at t) eval-some.Post eval-some-Inv-loop eval-some-μ-loop
 eval-some-loop-less-2 t c = omega arith
 
 eval-some-loop-again-2 : (t : ℕ) → eval-some-lts.Need-loop-again-2 (eval-some-claims t) (eval-some-at t) eval-some.Post eval-some-Inv-loop eval-some-μ-loop
 eval-some-loop-again-2 t c =
-    let z = c .before .before .before .before .before .before .before .before .before .before .before .before in
+    let z = c .before .before .before .before .before .before .before .before .before .before .before .before .before in
     let rows = now (z .args .edges) in
     let n = z .args .shape .edges in
     let w = c .before .before .before .before .before .before .before .loop in
     let i : w .i < n = omega arith in
     let l = edges-length rows n (z .pre .1 .0 .count) in
-    let e = edges-at rows n (w .i) i (z .pre .1 .0 .count) in
-    (omega arith, w .inv .1 ∙ hits-step _ target _ (w .standing) noEdge (edgesOf rows n) (w .i) (omega (arith, l)) (rw e (rw (c .before .before .before .before .before .edge-at .ensures) at (sym (c .before .before .before .before .leaves-by .ensures) ∙ not-false _ (c .before .before .before .if1 .left)))) (rw (c .before .before .before .before .before .edge-at .ensures ∙ sym e) at (c .before .before .eval-concept .ensures)) (c .before .some .ensures))
+    let h = edge-leaves _ _ _ _ (z .pre .1 .0) (z .args .role .0) (w .i) i (c .before .before .before .before .before .edge-by .ensures) (z .args .e .0) (c .before .before .before .before .before .before .before .before .before .role-id .ensures) (c .before .before .before .before .leaves-by .ensures) in
+    let v = edge-led _ _ _ _ (z .pre .1 .0) (z .args .role .0) (w .i) i (c .before .before .before .before .before .edge-by .ensures) in
+    (omega arith, w .inv .1 ∙ hits-step _ (targetBy (roleOf (z .args .role .0))) _ (w .standing) noEdge (edgesOf rows n) (w .i) (omega (arith, l)) (h ∙ not-false _ (c .before .before .before .if1 .left)) (rw v at (c .before .before .eval-concept .ensures)) (c .before .some .ensures))
 
 eval-some-close-some-requires : (t : ℕ) → eval-some-lts.Need-close-some-requires (eval-some-claims t) (eval-some-at t) eval-some.Post eval-some-Inv-loop eval-some-μ-loop
 eval-some-close-some-requires t c κs = search needs
 
 eval-some-returns-2 : (t : ℕ) → eval-some-lts.Need-returns-2 (eval-some-claims t) (eval-some-at t) eval-some.Post eval-some-Inv-loop eval-some-μ-loop
 eval-some-returns-2 t c =
-    let z = c .before .before .before .before .before .before .before in
+    let z = c .before .before .before .before .before .before .before .before in
     let rows = now (z .args .edges) in
     let n = z .args .shape .edges in
-    c .close-some .ensures ∙ hits-end _ target _ _ noEdge (edgesOf rows n) (c .before .before .loop .i) (omega (arith, edges-length rows n (z .pre .1 .0 .count))) ∙ sym (c .before .before .loop .inv .1) ∙ some-walk _ _ _ _ (z .pre .1 .0) (z .args .r .0) (z .args .e .0) (z .args .body .0)
+    c .close-some .ensures ∙ hits-end _ (targetBy (roleOf (z .args .role .0))) _ _ noEdge (edgesOf rows n) (c .before .before .loop .i) (omega (arith, edges-length rows n (z .pre .1 .0 .count))) ∙ sym (c .before .before .loop .inv .1) ∙ some-walk _ _ _ _ (z .pre .1 .0) (roleOf (z .args .role .0)) (z .args .e .0) (z .args .body .0)
 
 pub +eval-and+eval-concept+eval-some-spec : {M : Type 1} → statement M
 +eval-and+eval-concept+eval-some-spec =
@@ -412,7 +415,6 @@ pub +eval-and+eval-concept+eval-some-spec : {M : Type 1} → statement M
     (eval-concept-enum-known-expr-3 t)
     (eval-concept-is-inverse-requires t)
     (eval-concept-returns t)
-    (eval-concept-role-id-requires t)
     (eval-concept-eval-some-requires t)
     (eval-concept-enum-told-7 t)
     (eval-concept-enum-told-8 t)
@@ -435,9 +437,10 @@ pub +eval-and+eval-concept+eval-some-spec : {M : Type 1} → statement M
     eval-some-Inv-loop
     eval-some-μ-loop
     (eval-some-cast-count t)
+    (eval-some-role-id-requires t)
     (eval-some-new-requires t)
     (eval-some-loop-holds t)
-    (eval-some-edge-at-requires t)
+    (eval-some-edge-by-requires t)
     (eval-some-add-i t)
     (eval-some-leaves-by-requires t)
     (eval-some-loop-less t)
