@@ -1,5 +1,6 @@
 -- Answers as words: what a call returns and writes, and what follows once it returned 0. Assumes nothing.
 use Prim.Native.Nat.{ℕ, _<_, _≤_}
+use mathlib.Core.Bool.{true}
 use mathlib.Core.Path.{_≡_, refl, ap, _∙_}
 use mathlib.Core.List.{List, [], _∷_}
 use native.Mathlib.Omega.{arith}
@@ -18,8 +19,8 @@ use Rattle.eval.specs.declared.entry.ConceptAnswer.{ConceptAnswer}
 use Rattle.eval.specs.declared.entry.AxiomAnswer.{AxiomAnswer}
 use Rattle.eval.specs.Structure.{Structure}
 use Rattle.eval.specs.Lent.{structureOf}
-use Rattle.eval.specs.Truth.{Choice, ext}
-use Rattle.eval.specs.Judge.{Right}
+use Rattle.eval.specs.Truth.{Choice, ext, plain}
+use Rattle.eval.specs.Judge.{Right, truth}
 use Rattle.eval.specs.Justified.{Justified}
 use Rattle.eval.specs.Entry.{conceptAnswer, axiomAnswer}
 use Rattle.eval.specs.Verdict.{wordsOf}
@@ -106,10 +107,11 @@ module _ (s labels : List ℕ) (rows : List (List ℕ)) (shape : Shape) (answer 
   axiom-told a long is h = rw (le-ltb (length answer) 4 long) (h ∙ ap (λ (v : AxiomAnswer). verdictTold v answer) is)
 
 pub concept-right : {D : Deck} {S : Structure} {c e : ℕ} {answer′ : List ℕ} {r : ℕ} (answer : List ℕ) (ja : ConceptAnswer) → told r answer′ ≡ judgementTold ja answer
-    → ((j : Judgement) → ja ≡ ConceptAnswer.Judged j → (χ : Choice) → Right j (ext D S χ c e)) → r ≡ 0 → Judged D S c e answer′
-concept-right answer (ConceptAnswer.Refused ρ) h right z = refused-never ρ h z
-concept-right answer (ConceptAnswer.Judged j) h right z =
-    record { judgement = j; words = first-four answer (judgementWords j) (four-judgement j) h; right = right j refl }
+    → ((j : Judgement) → ja ≡ ConceptAnswer.Judged j → (χ : Choice) → Right j (ext D S χ c e))
+    → ((j : Judgement) → ja ≡ ConceptAnswer.Judged j → plain D c ≡ true → (χ : Choice) → j ≡ truth (ext D S χ c e)) → r ≡ 0 → Judged D S c e answer′
+concept-right answer (ConceptAnswer.Refused ρ) h right exact z = refused-never ρ h z
+concept-right answer (ConceptAnswer.Judged j) h right exact z =
+    record { judgement = j; words = first-four answer (judgementWords j) (four-judgement j) h; right = right j refl; exact = exact j refl }
 
 pub axiom-justified : {D : Deck} {S : Structure} {a : ℕ} {answer′ : List ℕ} {r : ℕ} (answer : List ℕ) (va : AxiomAnswer) → told r answer′ ≡ verdictTold va answer
     → ((v : Verdict) → va ≡ AxiomAnswer.Checked v → Justified D S (axiomAt D a) v) → r ≡ 0 → Checked D S a answer′

@@ -1,5 +1,6 @@
 -- What a caller may rely on once 0 was returned, read off the first four words of the answer.
 use Prim.Native.Nat.{ℕ}
+use mathlib.Core.Bool.{true}
 use mathlib.Core.Path.{_≡_}
 use mathlib.Core.List.{List}
 use lib.ListN.{take}
@@ -8,8 +9,8 @@ use Rattle.eval.specs.declared.judgement.Judgement.{Judgement}
 use Rattle.eval.specs.declared.verdict.Verdict.{Verdict}
 use Rattle.eval.specs.Structure.{Structure}
 use Rattle.eval.specs.Lent.{structureOf}
-use Rattle.eval.specs.Truth.{Choice, ext}
-use Rattle.eval.specs.Judge.{Right}
+use Rattle.eval.specs.Truth.{Choice, ext, plain}
+use Rattle.eval.specs.Judge.{Right, truth}
 use Rattle.eval.specs.Justified.{Justified}
 use Rattle.eval.specs.Verdict.{wordsOf}
 use Rattle.model.specs.declared.outcome.Outcome.{Outcome}
@@ -18,11 +19,12 @@ use Rattle.model.specs.Run.{shapeIn}
 use Rattle.model.specs.Trust.{Trusted}
 use Rattle.capi.specs.Words.{judgementWords, summaryWords}
 
--- true and false are so under every choice
+-- true and false are so under every choice; a plain concept is judged true or false, as it is
 pub record Judged (D : Deck) (S : Structure) (c e : ℕ) (answer : List ℕ) : Type 0 where
   pub judgement : Judgement
   pub words : take 4 answer ≡ judgementWords judgement
   pub right : (χ : Choice) → Right judgement (ext D S χ c e)
+  pub exact : plain D c ≡ true → (χ : Choice) → judgement ≡ truth (ext D S χ c e)
 
 -- "Holds only for a true axiom, Fails only for one false at its witnesses; exact on the plain part"
 pub record Checked (D : Deck) (S : Structure) (a : ℕ) (answer : List ℕ) : Type 0 where

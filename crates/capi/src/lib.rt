@@ -17,6 +17,8 @@ ghost use Rattle.report.specs.Lines.{outcomeWord};
 ghost use Rattle.report.specs.Text.{reported, Confirms};
 ghost use Rattle.report.specs.Text as text;
 use deck::check_deck;
+use deck::numbers::ConceptId;
+use deck::numbers::Element;
 use deck::refusal::Refusal;
 use deck::refusal::refusal_number;
 use eval::entry::check_axiom_in;
@@ -57,7 +59,15 @@ pub extern "C" fn style_deck_eval_concept(
     }
     tell_judgement(
         answer,
-        eval_concept_in(deck, labels, elements, edges, edge_count, concept, element),
+        eval_concept_in(
+            deck,
+            labels,
+            elements,
+            edges,
+            edge_count,
+            ConceptId(concept),
+            Element(element),
+        ),
     )
 }
 

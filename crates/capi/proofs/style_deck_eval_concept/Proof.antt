@@ -25,7 +25,7 @@ same-length : tie.Need-same-length
 same-length c = search needs
 
 returns-2 : tie.Need-returns-2
-returns-2 c = (concept-told _ _ _ _ _ _ _ (c .before .before .before .before .before .if1 .left) (c .before .before .before .eval-concept-in .ensures .0) (c .before .before .tell-judgement .ensures), concept-right _ _ (c .before .before .tell-judgement .ensures) (c .before .before .before .eval-concept-in .ensures .1))
+returns-2 c = (concept-told _ _ _ _ _ _ _ (c .before .before .before .before .before .if1 .left) (c .before .before .before .eval-concept-in .ensures .0) (c .before .before .tell-judgement .ensures), concept-right _ _ (c .before .before .tell-judgement .ensures) (c .before .before .before .eval-concept-in .ensures .1 .0) (c .before .before .before .eval-concept-in .ensures .1 .1))
 
 pub style-deck-eval-concept-spec : {M : Type 1} → statement M
 style-deck-eval-concept-spec =
