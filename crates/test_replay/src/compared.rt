@@ -1,6 +1,8 @@
 // What a run answers, held to the words of the data, one after the other.
 use cases::words::after;
 use cases::words::word_or_0;
+use deck::numbers::ConceptId;
+use deck::numbers::Element;
 use eval::entry::ConceptAnswer;
 use eval::entry::eval_concept_in;
 use eval::judgement::Judgement;
@@ -129,7 +131,15 @@ fn expect_concept(
     let mut seen = c;
     let mut element = 0;
     while element < elements {
-        let answer = eval_concept_in(deck, labels, elements, edges, edge_count, concept, element);
+        let answer = eval_concept_in(
+            deck,
+            labels,
+            elements,
+            edges,
+            edge_count,
+            ConceptId(concept),
+            Element(element),
+        );
         seen = expect(data, seen, judgement_word(answer));
         element += 1;
     }
