@@ -24,7 +24,7 @@ use Rattle.model.specs.Seed.{seeds, Seeded}
 use Rattle.model.specs.Reasons.{noted, counted, axiomsDropped}
 use Rattle.model.specs.Push.{State, start, stored, Left, Room}
 use Rattle.model.specs.Closing.{close, EdgesFit, Ready}
-use Rattle.model.specs.Model.{Model, withState, noteIn, Buffers, lent, begun, top, Prepared, Built}
+use Rattle.model.specs.Model.{Model, withState, noteIn, Buffers, lent, begun, among, top, Prepared, Built}
 use Rattle.model.specs.Expand.{expand, expandIn}
 use Rattle.model.specs.Rounds.{expandFromAxioms}
 use Rattle.model.specs.Phases.{phase, seeded, closeIn, laterPhases, phases, withDropped, construct, tallyOf, Dropped, Constructed}
@@ -270,3 +270,16 @@ prepared-seeded {s} {B} {n = n} A q m r R f l = record { accepted = A; few = see
 
 pub seed-room : (D : Deck) (B : Bounds) {r : ℕ} → (top D B + 1) * labelWidth D ≤ r → (classCount D + 1) * labelWidth D ≤ r
 seed-room D B {r} h = room-below (classCount D) (top D B) (labelWidth D) r (top-classes D B) h
+
+-- the tally that seeding leaves of an empty one
+pub seed-tally : {t t₀ : Tally} → t ≡ among (t .elements) t₀ → t₀ ≡ record { elements = 0; edges = 0; reasons = 0 } → t ≡ record { elements = t .elements; edges = 0; reasons = 0 }
+seed-tally {t} p q = p ∙ ap (among (t .elements)) q
+
+pub later-from : {D : Deck} {B : Bounds} (last : ℕ) {b b′ : Buffers} {l : List ℕ} {r : Step} {t t′ : Tally} → t ≡ t′
+    → Built D B b t b′ l r (laterPhases D B last (begun D b t)) → Built D B b t′ b′ l r (laterPhases D B last (begun D b t′))
+later-from {D} {B} last {b} {b′} {l} {r} e X = subst (λ (t : Tally). Built D B b t b′ l r (laterPhases D B last (begun D b t))) e X
+
+-- whether a step tripped, told by a test
+pub built-flag : {D : Deck} {B : Bounds} {b b′ : Buffers} {l : List ℕ} {t u : Tally} {m : Model} {v w : Bool} → v ≡ w
+    → Built D B b t b′ l (record { tally = u; tripped = v }) m → Built D B b t b′ l (record { tally = u; tripped = w }) m
+built-flag {D} {B} {b} {b′} {l} {t} {u} {m} e X = subst (λ (w : Bool). Built D B b t b′ l (record { tally = u; tripped = w }) m) e X

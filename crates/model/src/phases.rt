@@ -1,15 +1,19 @@
-// The phases of a run: 1 seed, 2 expand, 3 axioms, 4 closing.
+// The phases of a run: 1 seed, 2 expand, 3 axioms, 4 closing. Each is lent the tally, and alters it.
 ghost use mathlib.Core.Path.{_≡_};
-ghost use Prim.Native.Nat.{_+_, _*_, _<_, _≤_};
+ghost use Prim.Native.Nat.{ℕ, _+_, _*_, _<_, _≤_};
 ghost use lib.ListN.{length};
 ghost use Rattle.deck.specs.Content.{IsAccepted, deckOf};
+ghost use Rattle.deck.specs.Deck.{classCount};
 ghost use Rattle.eval.specs.Edges.{edgesOf};
 ghost use Rattle.eval.specs.Lent.{labelWidth};
-ghost use Rattle.model.specs.Closing.{EdgesFit};
+ghost use Rattle.model.specs.Closing.{EdgesFit, Ready, close};
+ghost use Rattle.model.specs.Expand.{expandIn};
 ghost use Rattle.model.specs.Floor.{floorLabel};
-ghost use Rattle.model.specs.Model.{lent, begun, top, Prepared, Built};
-ghost use Rattle.model.specs.Push.{Room};
+ghost use Rattle.model.specs.Model.{among, lent, begun, top, Prepared, Built};
+ghost use Rattle.model.specs.Push.{Left, Room, start};
 ghost use Rattle.model.specs.Phases.{laterPhases, Dropped, Constructed};
+ghost use Rattle.model.specs.Rounds.{expandFromAxioms};
+ghost use Rattle.model.specs.Seed.{Seeded};
 use crate::bounds::Bounds;
 use crate::closing::close_chains_and_transitivity;
 use crate::expand::expand;
@@ -22,6 +26,121 @@ use crate::tally::Step;
 use crate::tally::Tally;
 use deck::facts::dropped_count;
 
+// Nothing yet.
+fn no_tally() -> Tally
+    ensures { λ r. ⌜ r ≡ record { elements = 0; edges = 0; reasons = 0 } ⌝ }
+{
+    Tally {
+        elements: 0,
+        edges: 0,
+        reasons: 0,
+    }
+}
+
+// The tally with another number of elements.
+fn with_elements(t: Tally, elements: u32) -> Tally
+    ensures { λ r. ⌜ r ≡ among elements t ⌝ }
+{
+    Tally {
+        elements,
+        edges: t.edges,
+        reasons: t.reasons,
+    }
+}
+
+// The tally that a step left.
+fn tally_of(s: Step) -> Tally
+    ensures { λ r. ⌜ r ≡ s .tally ⌝ }
+{
+    let t = s.tally;
+    t
+}
+
+// Whether a step tripped a bound.
+fn has_tripped(s: Step) -> bool
+    ensures { λ r. ⌜ r ≡ s .tripped ⌝ }
+{
+    s.tripped
+}
+
+// 1 seed: the tally is lent, and its elements are the seeds.
+fn seed_phase(deck: &[u8], floor: &[u64], label: &mut [u64], labels: &mut [u64], tally: &mut Tally)
+    requires { ⌜ IsAccepted (now deck) ⌝ }
+    requires { ⌜ length (now floor) ≡ labelWidth (deckOf (now deck)) ⌝ }
+    requires { ⌜ length (now label) ≡ labelWidth (deckOf (now deck)) ⌝ }
+    requires { ⌜ (classCount (deckOf (now deck)) + 1) * labelWidth (deckOf (now deck)) ≤ length (now labels) ⌝ }
+    ensures { λ _. ⌜ Seeded (deckOf (now (deck .entry))) (now (floor .entry)) (now (label .entry)) (now (label .exit)) (now (labels .entry)) (now (labels .exit)) (now (tally .exit) .elements) ⌝ }
+    ensures { λ _. ⌜ now (tally .exit) ≡ among (now (tally .exit) .elements) (now (tally .entry)) ⌝ }
+{
+    let elements = seed(deck, floor, label, labels);
+    let t = *tally;
+    let next = with_elements(t, elements);
+    *tally = next;
+}
+
+// 2 expand: the tally is lent, and altered; whether a bound tripped.
+fn expand_phase(
+    deck: &[u8],
+    bounds: Bounds,
+    floor: &[u64],
+    label: &mut [u64],
+    labels: &mut [u64],
+    edges: &mut [[u32; 3]],
+    log: &mut [u32],
+    tally: &mut Tally,
+) -> bool
+    requires { ⌜ Prepared (now deck) bounds (lent (now labels) (now edges) (now log)) (now tally) (now floor) (now label) ⌝ }
+    ensures { λ r. ⌜ ((d : ℕ) → Built (deckOf (now (deck .entry))) bounds (lent (now (labels .entry)) (now (edges .entry)) (now (log .entry))) (now (tally .entry)) (lent (now (labels .exit)) (now (edges .exit)) (now (log .exit))) (now (label .exit)) (record { tally = now (tally .exit); tripped = r })
+        (expandIn (deckOf (now (deck .entry))) (now (floor .entry)) bounds (65536 + d) (begun (deckOf (now (deck .entry))) (lent (now (labels .entry)) (now (edges .entry)) (now (log .entry))) (now (tally .entry))))) ⌝ }
+{
+    let t = *tally;
+    let s = expand(deck, bounds, floor, label, labels, edges, log, t);
+    let next = tally_of(s);
+    *tally = next;
+    has_tripped(s)
+}
+
+// 3 axioms: the tally is lent, and altered; whether a bound tripped.
+fn axioms_phase(
+    deck: &[u8],
+    bounds: Bounds,
+    floor: &[u64],
+    label: &mut [u64],
+    labels: &mut [u64],
+    edges: &mut [[u32; 3]],
+    log: &mut [u32],
+    tally: &mut Tally,
+) -> bool
+    requires { ⌜ Prepared (now deck) bounds (lent (now labels) (now edges) (now log)) (now tally) (now floor) (now label) ⌝ }
+    ensures { λ r. ⌜ Built (deckOf (now (deck .entry))) bounds (lent (now (labels .entry)) (now (edges .entry)) (now (log .entry))) (now (tally .entry)) (lent (now (labels .exit)) (now (edges .exit)) (now (log .exit))) (now (label .exit)) (record { tally = now (tally .exit); tripped = r })
+        (expandFromAxioms (deckOf (now (deck .entry))) (now (floor .entry)) bounds (begun (deckOf (now (deck .entry))) (lent (now (labels .entry)) (now (edges .entry)) (now (log .entry))) (now (tally .entry)))) ⌝ }
+{
+    let t = *tally;
+    let s = expand_from_axioms(deck, bounds, floor, label, labels, edges, log, t);
+    let next = tally_of(s);
+    *tally = next;
+    has_tripped(s)
+}
+
+// 4 closing: the tally is lent, and altered; whether the edge bound tripped.
+fn closing_phase(
+    deck: &[u8],
+    bounds: Bounds,
+    edges: &mut [[u32; 3]],
+    log: &mut [u32],
+    tally: &mut Tally,
+) -> bool
+    requires { ⌜ Ready (now deck) (bounds .«max_edges») (now edges) (now tally) ⌝ }
+    ensures { λ r. ⌜ Left (bounds .«max_edges») (now (edges .entry)) (now (log .entry)) (now (tally .entry)) (now (edges .exit)) (now (log .exit)) (record { tally = now (tally .exit); tripped = r })
+        (close (deckOf (now (deck .entry))) (now (tally .entry) .elements) (bounds .«max_edges») (start (now (edges .entry)) (now (log .entry)) (now (tally .entry)))) ⌝ }
+{
+    let t = *tally;
+    let s = close_chains_and_transitivity(deck, bounds, edges, log, t);
+    let next = tally_of(s);
+    *tally = next;
+    has_tripped(s)
+}
+
 // Phases 2 to 4, as far as the last; a bound that trips skips what follows.
 fn later_phases(
     deck: &[u8],
@@ -31,40 +150,31 @@ fn later_phases(
     labels: &mut [u64],
     edges: &mut [[u32; 3]],
     log: &mut [u32],
-    t: Tally,
+    tally: &mut Tally,
     last_phase: u32,
-) -> Step
-    requires { ⌜ Prepared (now deck) bounds (lent (now labels) (now edges) (now log)) t (now floor) (now label) ⌝ }
-    requires { ⌜ EdgesFit (deckOf (now deck)) (t .elements) (edgesOf (now edges) (t .edges)) ⌝ }
+) -> bool
+    requires { ⌜ Prepared (now deck) bounds (lent (now labels) (now edges) (now log)) (now tally) (now floor) (now label) ⌝ }
+    requires { ⌜ EdgesFit (deckOf (now deck)) (now tally .elements) (edgesOf (now edges) (now tally .edges)) ⌝ }
     requires { ⌜ now floor ≡ floorLabel (deckOf (now deck)) ⌝ }
-    ensures { λ r. ⌜ Built (deckOf (now (deck .entry))) bounds (lent (now (labels .entry)) (now (edges .entry)) (now (log .entry))) t (lent (now (labels .exit)) (now (edges .exit)) (now (log .exit))) (now (label .exit)) r
-        (laterPhases (deckOf (now (deck .entry))) bounds «last_phase» (begun (deckOf (now (deck .entry))) (lent (now (labels .entry)) (now (edges .entry)) (now (log .entry))) t)) ⌝ }
+    ensures { λ r. ⌜ Built (deckOf (now (deck .entry))) bounds (lent (now (labels .entry)) (now (edges .entry)) (now (log .entry))) (now (tally .entry)) (lent (now (labels .exit)) (now (edges .exit)) (now (log .exit))) (now (label .exit)) (record { tally = now (tally .exit); tripped = r })
+        (laterPhases (deckOf (now (deck .entry))) bounds «last_phase» (begun (deckOf (now (deck .entry))) (lent (now (labels .entry)) (now (edges .entry)) (now (log .entry))) (now (tally .entry)))) ⌝ }
 {
     if last_phase < 2 {
-        return Step {
-            tally: t,
-            tripped: false,
-        };
+        return false;
     }
-    let s = expand(deck, bounds, floor, label, labels, edges, log, t);
-    let tripped = s.tripped;
-    if tripped {
-        return s;
+    if expand_phase(deck, bounds, floor, label, labels, edges, log, tally) {
+        return true;
     }
     if last_phase < 3 {
-        return s;
+        return false;
     }
-    let held = s.tally;
-    let u = expand_from_axioms(deck, bounds, floor, label, labels, edges, log, held);
-    let stopped = u.tripped;
-    if stopped {
-        return u;
+    if axioms_phase(deck, bounds, floor, label, labels, edges, log, tally) {
+        return true;
     }
     if last_phase < 4 {
-        return u;
+        return false;
     }
-    let grown = u.tally;
-    close_chains_and_transitivity(deck, bounds, edges, log, grown)
+    closing_phase(deck, bounds, edges, log, tally)
 }
 
 // Reason 4, given last where axioms were dropped.
@@ -109,13 +219,9 @@ pub fn construct(
     ensures { λ r. ⌜ Constructed (deckOf (now (deck .entry))) bounds «last_phase» (lent (now (labels .entry)) (now (edges .entry)) (now (log .entry))) (lent (now (labels .exit)) (now (edges .exit)) (now (log .exit))) r ⌝ }
 {
     compute_top_floor(deck, floor);
-    let elements = seed(deck, floor, label, labels);
-    let t = Tally {
-        elements,
-        edges: 0,
-        reasons: 0,
-    };
-    let s = later_phases(
+    let mut t = no_tally();
+    seed_phase(deck, floor, label, labels, &mut t);
+    later_phases(
         deck,
         bounds,
         floor,
@@ -123,9 +229,8 @@ pub fn construct(
         labels,
         edges,
         log,
-        t,
+        &mut t,
         last_phase,
     );
-    let held = s.tally;
-    note_dropped(deck, log, held)
+    note_dropped(deck, log, t)
 }

@@ -1,0 +1,2 @@
+pub mod At_Tally
+pub mod Short

@@ -1,0 +1,16 @@
+pub mod axioms_phase_Kinds
+pub mod axioms_phase_Lts
+pub mod axioms_phase_Reads
+pub mod closing_phase_Kinds
+pub mod closing_phase_Lts
+pub mod closing_phase_Reads
+pub mod construct_Lts
+pub mod expand_phase_Kinds
+pub mod expand_phase_Lts
+pub mod expand_phase_Reads
+pub mod later_phases_Kinds
+pub mod later_phases_Lts
+pub mod later_phases_Reads
+pub mod seed_phase_Kinds
+pub mod seed_phase_Lts
+pub mod seed_phase_Reads
