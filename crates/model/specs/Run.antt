@@ -25,11 +25,11 @@ use Rattle.model.specs.Model.{Model, top}
 use Rattle.model.specs.Phases.{construct, tallyOf}
 use Rattle.model.specs.Outcome.{outcomeOf}
 
--- "8: elements or rounds above 65,535, edges above 1,048,575, last phase not 1 to 4"
+-- refusal 8: "elements or rounds above 65,535, edges above 1,048,575, last phase not 1 to 4"
 unfoldable pub boundsFit : Bounds → ℕ → Bool
 boundsFit B last = leb (B .«max_elements») 65535 && (leb (B .«max_rounds») 65535 && (leb (B .«max_edges») 1048575 && (leb 1 last && leb last 4)))
 
--- "9: label, edge or verdict buffer below need": "Labels need (max(N, max_elements) + 1) × ceil(N / 64) words of 64 bits …; edges max_edges + 1; verdicts 4 × A words"
+-- refusal 9: "label, edge or verdict buffer below need": "Labels need (max(N, max_elements) + 1) × ceil(N / 64) words of 64 bits …; edges max_edges + 1; verdicts 4 × A words"
 unfoldable pub roomFits : Deck → Bounds → ℕ → ℕ → ℕ → Bool
 roomFits D B labels edges verdicts = leb ((top D B + 1) * labelWidth D) labels && (leb (B .«max_edges» + 1) edges && leb (4 * axiomCount D) verdicts)
 

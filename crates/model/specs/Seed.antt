@@ -41,7 +41,7 @@ pub record Seeded (D : Deck) (floor l l′ entry exit : List ℕ) (elements : �
   pub buffer : exit ≡ put entry (flat (seeds D floor (classCount D)))
   pub count : elements ≡ length (seeds D floor (classCount D))
 
--- an element of class c: its label "has d exactly when d is in c's row"
+-- an element of class c: its label has d exactly when d is in c's row
 pub record HasRow (D : Deck) (labels : List (List ℕ)) (c : ℕ) : Type 0 where
   pub element : ℕ
   pub below : element < length labels
