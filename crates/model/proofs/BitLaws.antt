@@ -13,6 +13,7 @@ use borrow.Author.Tests.{eq-eqb, ne-eqb}
 use Rattle.deck.specs.Below.{anyBelow}
 use Rattle.deck.proofs.CaseLaws.{lt-or-le}
 use Rattle.eval.specs.Lent.{bit}
+use Rattle.eval.proofs.Clash.{clash}
 
 pub pow-below : (b n : ℕ) → b < n → 2 ^ b < 2 ^ n
 pow-below b n h = omega (arith, two-pow-succ b, one-le-pow b 2 (omega arith), pow-le-pow-right {n = 2} (omega arith) {i = suc b} {j = n} h)
@@ -74,6 +75,23 @@ peel p w =
 
 two : (m : ℕ) → m < 2 → (m ≡ 0 → ⊥) → m ≡ 1
 two m h n = omega (arith, h, n)
+
+-- ---- words whose bits below n agree have the same low part
+same-digit : (p q : ℕ) → p < 2 → q < 2 → eqb p 1 ≡ eqb q 1 → p ≡ q
+same-digit zero zero a b e = refl
+same-digit zero (suc zero) a b e = clash (cc)
+same-digit zero (suc (suc q)) a b e = absurd (omega (arith, b))
+same-digit (suc zero) zero a b e = clash (cc)
+same-digit (suc zero) (suc zero) a b e = refl
+same-digit (suc zero) (suc (suc q)) a b e = absurd (omega (arith, b))
+same-digit (suc (suc p)) q a b e = absurd (omega (arith, a))
+
+pub same-low : (x y n : ℕ) → ((j : ℕ) → j < n → bit x j ≡ bit y j) → x % 2 ^ n ≡ y % 2 ^ n
+same-low x y zero h = mod-one x ∙ sym (mod-one y)
+same-low x y (suc n) h =
+    let e : x / 2 ^ n % 2 ≡ y / 2 ^ n % 2 = same-digit (x / 2 ^ n % 2) (y / 2 ^ n % 2) (omega arith) (omega arith) (h n (omega arith)) in
+    let l : x % 2 ^ n ≡ y % 2 ^ n = same-low x y n (λ j b. h j (omega (arith, b))) in
+    rw (pow-suc 2 n, peel (2 ^ n) x, peel (2 ^ n) y, l, e)
 
 pub any-bits : (w n : ℕ) → anyBelow (bit w) n ≡ not (eqb (w % 2 ^ n) 0)
 unfolding anyBelow

@@ -26,7 +26,7 @@ use Rattle.model.specs.Target.{targetOf}
 use Rattle.model.specs.Exists.{Body, body, Joined, met, rowOfClass, joinBy, joinAtom, joinAtoms, noAtoms, noted-in, withRanges, closeBody, bodyOf}
 use Rattle.model.proofs.FloorLaws.{atoms-atomic, atoms-and, atoms-other}
 use Rattle.model.proofs.WalkLaws.{walk-flat, walk-keeps}
-use Rattle.model.proofs.LabelLaws.{length-insert-all}
+use Rattle.model.proofs.LabelLaws.{length-insert-all, insert-all-append}
 
 -- ---- one more atom
 pub met-again : (a : ℕ) (j : Atoms) → j .found ≡ true → j ≡ met a j
@@ -84,27 +84,32 @@ module _ (D : Deck) (r b : ℕ) (log : List ℕ) (n : ℕ) (l₁ l₀ : List ℕ
   pub close-open : j .found ≡ true → j .unclosed ≡ true → {g′ : List ℕ} {n′ : ℕ} → g′ ≡ noted g (j .reasons) (labelNotClosed (j .first .0) r) → n′ ≡ counted (j .reasons) → Joined l g′ n′ (bodyOf D r b log n)
   close-open e u {g′} {n′} p q = subst (Joined l g′ n′) close-is (rw (e, u) (record { label = refl; log = p; reasons = q }))
 
--- ---- the label keeps its width
-module _ (D : Deck) where
-  by-wide : (a : ℕ) (t : Target) (s : Body) → length (joinBy D a t s .label) ≡ length (s .label)
-  by-wide a (Row k) s = length-insert-all (s .label) (rowOfClass D (k .0))
-  by-wide a (Delta k) s = length-insert-all (s .label) (rowOfClass D (k .0))
-  by-wide a NotClosed s = length-insert-all (s .label) (rowOfClass D a)
+-- ---- what a label keeps that takes rows of classes in, the label of a body's target has
+module _ (D : Deck) (P : List ℕ → Type 0) (K : (k : ℕ) (l : List ℕ) → P l → P (insertAll l (rowOfClass D k))) where
+  by-keeps : (a : ℕ) (t : Target) (s : Body) → P (s .label) → P (joinBy D a t s .label)
+  by-keeps a (Row k) s p = K (k .0) (s .label) p
+  by-keeps a (Delta k) s p = K (k .0) (s .label) p
+  by-keeps a NotClosed s p = K a (s .label) p
 
-  atoms-wide : (r c w : ℕ) (s : Body) → length (s .label) ≡ w → length (joinAtoms D r c s .label) ≡ w
-  unfolding joinAtoms joinAtom
-  atoms-wide r c w s e = walk-keeps (λ (b : Body). length (b .label) ≡ w) (joinAtom D r) (requiredAtoms D c) (λ a i b q. by-wide a (targetOf D a r) b ∙ q) s e
+  rows-keep : (ks l : List ℕ) → P l → P (insertAll l (flatMap (rowOfClass D) ks))
+  unfolding flatMap insertAll
+  rows-keep [] l p = p
+  rows-keep (k ∷ ks) l p = rw (insert-all-append l (rowOfClass D k) (flatMap (rowOfClass D) ks)) (rows-keep ks (insertAll l (rowOfClass D k)) (K k l p))
 
-  close-wide : (r w : ℕ) (s : Body) → length (s .label) ≡ w → length (closeBody D r s .label) ≡ w
-  close-wide r w s e = by (s .atoms .found) (s .atoms .unclosed)
+  close-keeps : (r : ℕ) (s : Body) → P (s .label) → P (closeBody D r s .label)
+  close-keeps r s p = by (s .atoms .found) (s .atoms .unclosed)
     where
-      by : (f u : Bool) → length (cond f (cond u (noted-in (labelNotClosed (s .atoms .first .0) r) s) s) (withRanges D r s) .label) ≡ w
-      by true true = e
-      by true false = e
-      by false u = length-insert-all (s .label) (flatMap (rowOfClass D) (roleAt D r .range)) ∙ e
+      by : (f u : Bool) → P (cond f (cond u (noted-in (labelNotClosed (s .atoms .first .0) r) s) s) (withRanges D r s) .label)
+      by true true = p
+      by true false = p
+      by false u = rows-keep (roleAt D r .range) (s .label) p
 
-  pub body-wide : (r b : ℕ) (log : List ℕ) (n : ℕ) → length (bodyOf D r b log n .label) ≡ labelWidth D
-  unfolding bodyOf
-  body-wide r b log n =
+  pub body-keeps : P (replicate (labelWidth D) 0) → (r b : ℕ) (log : List ℕ) (n : ℕ) → P (bodyOf D r b log n .label)
+  unfolding bodyOf joinAtoms joinAtom
+  body-keeps z r b log n =
       let s = body (replicate (labelWidth D) 0) log (noAtoms n) in
-      close-wide r (labelWidth D) (joinAtoms D r b s) (atoms-wide r b (labelWidth D) s (length-replicate {A = ℕ} (labelWidth D) 0))
+      close-keeps r (joinAtoms D r b s) (walk-keeps (λ (x : Body). P (x .label)) (joinAtom D r) (requiredAtoms D b) (λ a i x q. by-keeps a (targetOf D a r) x q) s z)
+
+-- its width
+pub body-wide : (D : Deck) (r b : ℕ) (log : List ℕ) (n : ℕ) → length (bodyOf D r b log n .label) ≡ labelWidth D
+body-wide D = body-keeps D (λ l. length l ≡ labelWidth D) (λ k l e. length-insert-all l (rowOfClass D k) ∙ e) (length-replicate {A = ℕ} (labelWidth D) 0)

@@ -180,6 +180,16 @@ grows-length {es} {fs} G = omega (arith, ap length (G .is) ∙ length-append es 
 pub walk-grows : {A : Type 0} (f : A → State → State) → ((x : A) (s : State) → Grows (s .edges) (f x s .edges)) → (xs : List A) (s : State) → Grows (s .edges) (walk f xs s .edges)
 walk-grows f h xs s = walk-keeps (λ t. Grows (s .edges) (t .edges)) f xs (λ x i t g. grows-trans g (h x t)) s (grows-refl (s .edges))
 
+-- ---- within the bound: past it only by the edge that tripped it
+unfoldable pub Bound : ℕ → State → Type 0
+Bound limit s = (s .tripped ≡ false → length (s .edges) ≤ limit) × (length (s .edges) ≤ limit + 1)
+
+pub bound-added : (limit : ℕ) (e : Edge) (s : State) → s .tripped ≡ false → Bound limit s → Bound limit (added limit e s)
+unfolding Bound
+bound-added limit e s q b =
+    let n = length-append (s .edges) (e ∷ []) in
+    (λ w. let l : length (s .edges) + 1 ≤ limit = ltb-false limit (length (s .edges) + 1) w in omega (arith, n), omega (arith, n, b .0 q))
+
 module _ (D : Deck) (n limit : ℕ) where
   pub join-grows : (v x z : ℕ) (s : State) → Grows (s .edges) (join D n limit v x z s .edges)
   join-grows v x z s = join-case D n limit (λ t. Grows (s .edges) (t .edges)) v x z s (grows-refl (s .edges)) (λ e f. record { more = edge v x z ∷ []; is = refl })
@@ -204,20 +214,15 @@ module _ (D : Deck) (n limit : ℕ) where
   unfolding closePass
   pass-grows s = walk-grows (closeAxiom D n limit) axiom-grows (D .axioms) s
 
-  -- ---- within the bound while it has not tripped
-  unfoldable pub Bound : State → Type 0
-  Bound s = s .tripped ≡ false → length (s .edges) ≤ limit
-
-  bound-keeps : (q : Rule) → KeepsBy D n limit Bound q
-  unfolding Keeps Bound
-  bound-keeps (Compose a b v) = λ s u t bs bu bt x y z hx hz ea eb et el w.
-      let l : length (t .edges) + 1 ≤ limit = ltb-false limit (length (t .edges) + 1) w in
-      omega (arith, length-append (t .edges) (edge (v .0) x z ∷ []))
+  -- ---- within the bound
+  pub bound-keeps : (q : Rule) → KeepsBy D n limit (Bound limit) q
+  unfolding Keeps
+  bound-keeps (Compose a b v) = λ s u t bs bu bt x y z hx hz ea eb et el. bound-added limit (edge (v .0) x z) t et bt
   bound-keeps NoRule = tt
 
   pub pass-bound : (s : State) → length (s .edges) ≤ limit → closePass D n limit s .tripped ≡ false → length (closePass D n limit s .edges) ≤ limit
   unfolding Bound
-  pass-bound s l = pass-keeps D n limit Bound (λ x i. bound-keeps (ruleOf x)) s (λ e. l)
+  pass-bound s l = pass-keeps D n limit (Bound limit) (λ x i. bound-keeps (ruleOf x)) s (λ e. l, omega (arith, l)) .0
 
   -- ---- every edge fits
   unfoldable pub FitState : State → Type 0

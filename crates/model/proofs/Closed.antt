@@ -32,7 +32,7 @@ use Rattle.model.specs.Walk.{walk}
 use Rattle.model.specs.Closing.{graph, join, closeFrom, closeRule, closeAxiom, closePass, closing, close, EdgesFit}
 use Rattle.model.proofs.WalkLaws.{walk-keeps}
 use Rattle.model.proofs.RuleLaws.{rule-fits-in}
-use Rattle.model.proofs.CloseLaws.{linked-is, linked-fits, join-stuck, join-new, join-grows, from-stuck, from-grows, axiom-stuck, axiom-grows, axiom-by, Keeps, KeepsBy, pass-keeps, fits-keeps, FitState, Grows, grows-length, walk-grows}
+use Rattle.model.proofs.CloseLaws.{linked-is, linked-fits, join-stuck, join-new, join-grows, from-stuck, from-grows, axiom-stuck, axiom-grows, axiom-by, Keeps, KeepsBy, pass-keeps, Bound, bound-keeps, fits-keeps, FitState, Grows, grows-length, walk-grows}
 use Rattle.model.proofs.Passes.{ends, goes-on, close-step}
 
 -- ---- a walk that adds nothing
@@ -166,6 +166,10 @@ module _ (D : Deck) (n limit : ℕ) where
     unfolding close
     close-keeps s q = closing-keeps (suc (limit - length (s .edges))) s q
 
+  -- closing stays within the bound
+  pub close-bound : (s : State) → Bound limit s → Bound limit (close D n limit s)
+  close-bound = close-keeps (Bound limit) (λ x m. bound-keeps D n limit (ruleOf x))
+
   -- every edge fits after closing
   pub close-fits : Sound D → (s : State) → EdgesFit D n (s .edges) → EdgesFit D n (close D n limit s .edges)
   unfolding FitState
@@ -245,7 +249,7 @@ module _ (D : Deck) (S : Sound D) (n limit : ℕ) (s : State) (l : length (s .ed
   unfolding Settled
   closed = pass-closed D n limit S (close D n limit s) e (close-fits D n limit S s F) (ap (λ (u : State). length (u .edges)) (settles D n limit (limit - length (s .edges)) s l (omega arith) e))
 
-  -- "every two-link chain axiom and every transitive axiom without inverse words Holds"
+  -- every two-link chain axiom and every transitive axiom without inverse words Holds
   pub holds : (member : ℕ → ℕ → Bool) (x : Axiom) → Member x (D .axioms) → (a b v : RoleId) → ruleOf x ≡ Compose a b v → verdict D (over n member (close D n limit s .edges)) x ≡ Holds
   holds member x m a b v i =
       let T = over n member (close D n limit s .edges) in
@@ -260,7 +264,7 @@ module _ (D : Deck) (S : Sound D) (n limit : ℕ) (s : State) (l : length (s .ed
 unfoldable pub Inside : (ℕ → ℕ → ℕ → Type 0) → List Edge → Type 0
 Inside P es = (e : Edge) → Member e es → P (e .role .0) (e .from .0) (e .to .0)
 
--- "any other assignment of pairs to roles that … gives each role at least the pairs of the roles in its row, and is closed under those axioms"
+-- an assignment of pairs to roles that gives each role at least the pairs of the roles in its row, and is closed under those axioms
 pub record Assignment (D : Deck) (P : ℕ → ℕ → ℕ → Type 0) : Type 0 where
   pub rows : (r q x y : ℕ) → has (roleAt D r .subRoles) q ≡ true → P q x y → P r x y
   pub rules : (x : Axiom) → Member x (D .axioms) → (a b v : RoleId) → ruleOf x ≡ Compose a b v → (p q r : ℕ) → P (a .0) p q → P (b .0) q r → P (v .0) p r
@@ -288,7 +292,7 @@ module _ (D : Deck) (P : ℕ → ℕ → ℕ → Type 0) (A : Assignment D P) wh
       (append-cases (t .edges) k)
   inside-keeps n limit x m NoRule i = tt
 
-  -- "It has, for every role, at least the pairs that closing left."
+  -- such an assignment has, for every role, at least the pairs that closing left
   pub least : (n limit : ℕ) (s : State) → Inside P (s .edges) → (member : ℕ → ℕ → Bool) (r x y : ℕ) → hasEdge D (over n member (close D n limit s .edges)) r x y ≡ true → P r x y
   unfolding InsideState
   least n limit s h member r x y i =

@@ -191,11 +191,11 @@ module _ (s : List ℕ) (a : ℕ) {r : AxiomRecord} (R : AxiomRead s a r) where
 
 -- ---- a class below M, by words
 module _ (l : List ℕ) where
-  no-class : (k : ℕ) → getD l (k / 64) 0 ≡ 0 → labelHas l k ≡ false
+  pub no-class : (k : ℕ) → getD l (k / 64) 0 ≡ 0 → labelHas l k ≡ false
   unfolding labelHas
   no-class k z = rw (z, zero-div (2 ^ (k % 64)))
 
-  at-word : (i b : ℕ) → b < 64 → labelHas l (i * 64 + b) ≡ bit (getD l i 0) b
+  pub at-word : (i b : ℕ) → b < 64 → labelHas l (i * 64 + b) ≡ bit (getD l i 0) b
   unfolding labelHas
   at-word i b h =
       let d : (i * 64 + b) / 64 ≡ i = omega arith in

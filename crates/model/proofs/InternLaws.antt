@@ -58,6 +58,11 @@ pub by-cond : {A : Type 0} (P : A → Type 0) (b : Bool) (x y : A) → P x → P
 by-cond P true x y p q = p
 by-cond P false x y p q = q
 
+-- the same, where either is shown under its test
+pub by-case : {A : Type 0} (P : A → Type 0) (b : Bool) (x y : A) → (b ≡ true → P x) → (b ≡ false → P y) → P (cond b x y)
+by-case P true x y p q = p refl
+by-case P false x y p q = q refl
+
 pub interned-wide : {w : ℕ} {ls : List (List ℕ)} (l : List ℕ) → Wide w ls → length l ≡ w → Wide w (interned ls l)
 unfolding interned
 interned-wide {w} {ls} l h e = by-cond (Wide w) (ltb (indexOf ls l) (length ls)) ls (ls ++ (l ∷ [])) h (wide-append l h e)

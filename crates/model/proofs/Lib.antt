@@ -6,6 +6,7 @@ pub mod MemberLaws
 pub mod InternLaws
 pub mod FloorLaws
 pub mod SeedLaws
+pub mod TidyLaws
 pub mod PushLaws
 pub mod NextLaws
 pub mod WalkLaws

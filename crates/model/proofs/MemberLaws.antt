@@ -19,7 +19,7 @@ use Rattle.model.specs.Label.{labelHas, insertBit, insertAll, labelOf, j
 use Rattle.model.proofs.BitLaws.{bit-or, bit-pow}
 use Rattle.model.proofs.LabelLaws.{length-insert, length-join-to}
 
-by-cases : {C : Type 0} (a b : ℕ) → (a ≡ b → C) → ((a ≡ b → ⊥) → C) → C
+pub by-cases : {C : Type 0} (a b : ℕ) → (a ≡ b → C) → ((a ≡ b → ⊥) → C) → C
 by-cases a b f g = ⊎-elim (λ (l : a < b). g (λ e. omega (arith, e, l))) (λ (h : b ≤ a). ⊎-elim (λ (e : b ≡ a). f (sym e)) (λ (l : b < a). g (λ e. omega (arith, e, l))) (eq-or-lt-of-le h)) (lt-or-le a b)
 
 pub or-assoc : (a b c : Bool) → ((a || b) || c) ≡ (a || (b || c))
@@ -49,7 +49,7 @@ has-all l (k ∷ ks) j fit =
     has-all (insertBit l k) ks j (λ (i : ℕ) (b : i < length ks). rw (length-insert l k) (fit (suc i) (omega (arith, b))))
     ∙ ap (λ (x : Bool). x || has ks j) (has-insert l k j (fit zero (omega arith))) ∙ or-assoc (labelHas l j) (eqb k j) (has ks j)
 
-zero-word : (w i : ℕ) → getD {A = ℕ} (replicate w 0) i 0 ≡ 0
+pub zero-word : (w i : ℕ) → getD {A = ℕ} (replicate w 0) i 0 ≡ 0
 zero-word w i =
     ⊎-elim (λ (h : i < w). getD-replicate w i 0 0 h) (λ (h : w ≤ i). List·getD-eq-default (replicate w 0) 0 (omega (arith, h, length-replicate {A = ℕ} w 0))) (lt-or-le i w)
 
@@ -68,7 +68,7 @@ unfolding joinTo
 join-later l f zero i h = refl
 join-later l f (suc n) i h = getD-set-other (joinTo l f n) n i _ 0 (λ e. omega (arith, e, h)) ∙ join-later l f n i (omega (arith, h))
 
-join-word : (l f : List ℕ) (n i : ℕ) → i < n → n ≤ length l → getD (joinTo l f n) i 0 ≡ bitOr (getD l i 0) (getD f i 0)
+pub join-word : (l f : List ℕ) (n i : ℕ) → i < n → n ≤ length l → getD (joinTo l f n) i 0 ≡ bitOr (getD l i 0) (getD f i 0)
 unfolding joinTo
 join-word l f zero i h k = absurd (omega (arith, h))
 join-word l f (suc n) i h k =

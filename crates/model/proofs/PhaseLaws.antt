@@ -34,6 +34,7 @@ use Rattle.model.proofs.SeedLaws.{seeds-wide, seeds-few}
 use Rattle.model.proofs.PushLaws.{left-words, left-edges, left-log, left-count}
 use Rattle.model.proofs.JudgingLaws.{put-sets}
 use Rattle.model.proofs.BuildLaws.{all-fit, left-among, top-classes, built-is, built-same, built-trans, built-start, built-quiet, built-tripped, built-count, prepared-after}
+use Rattle.model.proofs.TidyLaws.{tidy-floor}
 use Rattle.model.proofs.KeepLaws.{kept-trans}
 use Rattle.model.proofs.ExpandKeeps.{expand-kept}
 use Rattle.model.proofs.RoundKeeps.{axioms-kept}
@@ -153,7 +154,7 @@ module _ {s : List ℕ} {B : Bounds} {b : Buffers} {t : Tally} {floor label : Li
       ready-three fits =
           let Q = prepared-after P Y v in
           let W = sound s (P .accepted) in
-          let K = kept-trans (expand-kept D W (floorLabel D) B m) (axioms-kept D W (floorLabel D) B (two D B m)) in
+          let K = kept-trans (expand-kept D W (floorLabel D) (tidy-floor D W) B m) (axioms-kept D W (floorLabel D) (tidy-floor D W) B (two D B m)) in
           let f = K .fits (rw (length-rows (labelWidth D) (t .elements) (b .labels)) fits) in
           record { accepted = P .accepted; few = omega (arith, Q .few, Q .most); space = Q .space; fits = rw (← built-count Y, left-edges (Y .left)) f }
 

@@ -1,12 +1,13 @@
 -- Demand 3 as a theorem over the definition of a run: `trusted`.
-use Prim.Native.Nat.{ℕ, zero, suc, _+_, _*_, _<_, _≤_}
-use mathlib.Core.Bool.{Bool, true, false, cond, _||_}
+use Prim.Native.Nat.{ℕ, zero, suc, _+_, _-_, _*_, _/_, _<_, _≤_}
+use mathlib.Core.Bool.{Bool, true, false, not, cond, _||_}
 use mathlib.Core.Path.{_≡_, refl, sym, ap, _∙_, subst}
 use mathlib.Core.List.{List, [], _∷_, _++_, map, flatMap}
 use native.Mathlib.Nat.{mul-le-mul-right}
 use native.Mathlib.Omega.{arith}
 use lib.ListN.{length, getD, drop, length-map, List·getD-append}
 use lib.Dec.{ltb}
+use borrow.Author.Tests.{le-leb, lt-ltb}
 use Rattle.deck.specs.declared.refusal.Refusal.{Refusal}
 use Rattle.deck.specs.declared.DeckAnswer.{DeckAnswer}
 use Rattle.deck.specs.declared.DeckAnswer.the-variants.{Accepted, Refused}
@@ -16,13 +17,16 @@ use Rattle.deck.specs.Deck.{Deck, Axiom, axiomAt, axiomCount, classAt, classCou
 use Rattle.deck.specs.Content.{IsAccepted, deckOf}
 use Rattle.deck.specs.Sound.{Sound}
 use Rattle.deck.proofs.SoundLaws.{sound, limited}
+use Rattle.deck.proofs.BelowLaws.{all-of}
 use Rattle.eval.specs.declared.verdict.Verdict.{Verdict}
 use Rattle.eval.specs.declared.verdict.Verdict.the-variants.{Holds, Fails, UnhandledAxiom, UnhandledConcept, GuardedRoleHasEdges}
 use Rattle.eval.specs.declared.edges.Edge.{Edge}
 use Rattle.eval.specs.Edges.{edgeOf, rowOf}
 use Rattle.eval.specs.Lists.{any}
 use Rattle.eval.specs.Structure.{Structure}
-use Rattle.eval.specs.Lent.{labelWidth, structureOf, EdgeFits, Fits}
+use Rattle.eval.specs.declared.shape.Shape.{Shape}
+use Rattle.eval.specs.Lent.{labelWidth, memberIn, structureOf, EdgeFits, Fits}
+use Rattle.eval.specs.Foreign.{countsFit, edgesFit, labelFits, labelsFit, structureFits}
 use Rattle.eval.specs.Verdict.{wordsOf, verdict}
 use Rattle.eval.specs.Truth.{Choice, True}
 use Rattle.eval.proofs.Clash.{clash}
@@ -33,6 +37,7 @@ use Rattle.model.specs.declared.tally.Tally.{Tally}
 use Rattle.model.specs.declared.outcome.Outcome.{Outcome}
 use Rattle.model.specs.declared.outcome.Outcome.the-variants.{Confirmed, Failed, Open}
 use Rattle.model.specs.declared.run.RunAnswer.{RunAnswer}
+use Rattle.model.specs.Label.{labelHas}
 use Rattle.model.specs.Rows.{put, flat, rowAt, rowsOf, Wide, none, more}
 use Rattle.model.specs.Push.{edge}
 use Rattle.model.specs.Closing.{EdgesFit}
@@ -40,12 +45,15 @@ use Rattle.model.specs.Model.{Model, lent, top}
 use Rattle.model.specs.Phases.{construct, tallyOf, Constructed}
 use Rattle.model.specs.Outcome.{isFails, isUnresolved, outcomeBy, outcomeOf}
 use Rattle.model.specs.Run.{runRefusal, boundsFit, roomFits, Ran, ran, shapeIn, verdictsIn, wordsIn, judged, accepted, unlessRefused, run}
-use Rattle.model.specs.Trust.{Vouched, Stands, Trusted}
+use Rattle.model.specs.Trust.{Vouched, Stands, Trusted, Lendable}
 use Rattle.model.proofs.RowLaws.{rows-put, rows-at, length-put, length-flat}
 use Rattle.model.proofs.SeedLaws.{row-member}
 use Rattle.model.proofs.JudgingLaws.{length-words}
 use Rattle.model.proofs.NeedLaws.{BoundsIn, bounds-in, RoomIn, room-in}
-use Rattle.model.proofs.PhaseKeeps.{construct-wide, construct-fits, construct-row}
+use Rattle.model.proofs.PhaseKeeps.{construct-labels, construct-within, construct-fits, construct-row}
+use Rattle.model.proofs.InternLaws.{member-label}
+use Rattle.model.proofs.TidyLaws.{Labels, same-classes}
+use Rattle.model.proofs.CloseLaws.{Bound}
 
 -- ---- what an accepted run has passed
 pub record Passed (s : List ℕ) (B : Bounds) (last labels edges verdicts : ℕ) : Type 0 where
@@ -138,7 +146,7 @@ module _ (s : List ℕ) (B : Bounds) (last : ℕ) (labels : List ℕ) (edges : L
   stood W c r u =
       let h = construct-row D W B last log c r u in
       let n : c < classCount D = omega (arith, W .real) in
-      let exact : (d : ℕ) → d < classCount D → S .member (h .element) d ≡ has (classAt D c .row) d = λ d b. row-member D (construct-wide D W B last log) h labels d b in
+      let exact : (d : ℕ) → d < classCount D → S .member (h .element) d ≡ has (classAt D c .row) d = λ d b. row-member D (construct-labels D W B last log .wide) h labels d b in
       record { element = h .element; below = h .below; own = exact c n ∙ W .classes c n .own u; exact = exact }
 
   abbrev words : List ℕ
@@ -213,7 +221,7 @@ module _ (s : List ℕ) (B : Bounds) (last : ℕ) (labels : List ℕ) (edges : L
         let D = deckOf s in
         let W = sound s (P .deck) in
         let m = construct D B last log in
-        let w = construct-wide D W B last log in
+        let w = construct-labels D W B last log .wide in
         let n : t .elements ≡ length (m .labels) = ap (λ (x : Tally). x .elements) (C .tally) in
         let k : t .edges ≡ length (m .state .edges) = ap (λ (x : Tally). x .edges) (C .tally) in
         let room : t .elements * labelWidth D ≤ length labels = omega (arith, P .room .rows, mul-le-mul-right {m = t .elements} {n = top D B + 1} (labelWidth D) (C .few)) in
@@ -233,6 +241,73 @@ pub trusted-as : (s : List ℕ) (B : Bounds) (last : ℕ) (labels : List ℕ) (e
 trusted-as s B last labels edges log verdicts {r} {labels′} {edges′} {log′} {verdicts′} e outcome t h =
     subst (λ (x : Ran). Trusted (deckOf s) (structureOf (deckOf s) (x .labels) (x .edges) (shapeIn t)) (x .verdicts) outcome) (sym e)
     (trusted s B last labels edges log verdicts outcome t (sym (ap (λ (x : Ran). x .answer) e) ∙ h))
+
+-- ---- what a run leaves may be lent again
+-- a structure that fits, with labels that are tidy and apart at the start of its buffer
+module _ (s : List ℕ) (buf : List ℕ) (ls : List (List ℕ)) (rows : List (List ℕ)) (shape : Shape) (K : Labels (deckOf s) ls) (n : shape .elements ≡ length ls) (F : Fits s (put buf (flat ls)) rows shape) where
+  abbrev D₂ : Deck
+  D₂ = deckOf s
+
+  abbrev L₂ : List ℕ
+  L₂ = put buf (flat ls)
+
+  -- a class that has a word in the label
+  class-of : (e k : ℕ) → e < shape .elements → k / 64 < labelWidth D₂ → memberIn L₂ (labelWidth D₂) e k ≡ labelHas (getD ls e []) k
+  class-of e k h w = member-label (K .wide) buf e k (omega (arith, h, n)) w
+
+  counts-fit : countsFit D₂ L₂ rows shape ≡ true
+  unfolding countsFit
+  counts-fit = rw (le-leb (shape .elements) 65536 (F .few), le-leb (shape .elements * labelWidth D₂) (length L₂) (F .room), le-leb (shape .edges) (length rows) (F .count))
+
+  edges-fit : edgesFit D₂ rows shape ≡ true
+  unfolding edgesFit
+  edges-fit = all-of _ (shape .edges) (λ i h. let e = F .ends i h in rw (lt-ltb _ _ (e .role), lt-ltb _ _ (e .from), lt-ltb _ _ (e .to)))
+
+  labels-fit : labelsFit D₂ L₂ shape ≡ true
+  unfolding labelsFit labelFits
+  labels-fit =
+      all-of _ (shape .elements) (λ e h.
+      all-of _ (64 * labelWidth D₂ - classCount D₂) (λ j b.
+      ap not (class-of e (classCount D₂ + j) h (omega (arith, b)) ∙ K .tidy e (omega (arith, h, n)) .clean (classCount D₂ + j) (omega arith))))
+
+  pub lendable-at : Lendable D₂ L₂ rows shape
+  unfolding structureFits
+  lendable-at = record {
+    fits = rw (counts-fit, edges-fit, labels-fit);
+    apart = λ e f h g q.
+        let a : e < length ls = omega (arith, h, n) in
+        let b : f < length ls = omega (arith, g, n) in
+        K .apart e f a b (same-classes D₂ (K .tidy e a) (K .tidy f b) (λ k l. sym (class-of e k h (omega (arith, l))) ∙ q k l ∙ class-of f k g (omega (arith, l))));
+  }
+
+module _ (s : List ℕ) (B : Bounds) (last : ℕ) (labels : List ℕ) (edges : List (List ℕ)) (log verdicts : List ℕ) where
+  -- what is built stands in the buffers, past a bound only what tripped it
+  constructed-is : Passed s B last (length labels) (length edges) (length verdicts)
+      → Constructed (deckOf s) B last (lent labels edges log) (lent (put labels (flat (construct (deckOf s) B last log .labels))) (put edges (map rowOf (construct (deckOf s) B last log .state .edges))) (construct (deckOf s) B last log .state .log)) (tallyOf (construct (deckOf s) B last log))
+  unfolding Bound
+  constructed-is P =
+      let m = construct (deckOf s) B last log in
+      let X = construct-within (deckOf s) (sound s (P .deck)) B last log in
+      let k : length (map rowOf (m .state .edges)) ≤ length edges = omega (arith, length-map (m .state .edges) rowOf, X .edges .1, P .room .links) in
+      record { labels = refl; edges = refl; log = refl; tally = refl; few = X .elements; room = omega (arith, length-put edges (map rowOf (m .state .edges)) k, length-map (m .state .edges) rowOf, k) }
+
+  -- after every accepted run, whatever deck, bounds and last phase
+  pub lendable : (outcome : Outcome) (t : Tally) → run s B last labels edges log verdicts .answer ≡ RunAnswer.Done outcome t
+      → Lendable (deckOf s) (run s B last labels edges log verdicts .labels) (run s B last labels edges log verdicts .edges) (shapeIn t)
+  unfolding run accepted judged
+  lendable outcome t = by (runRefusal s B last (length labels) (length edges) (length verdicts)) refl
+    where
+      left : DeckAnswer → Ran
+      left a = unlessRefused a (accepted (deckOf s) B last labels edges log verdicts) labels edges log verdicts
+
+      by : (a : DeckAnswer) → runRefusal s B last (length labels) (length edges) (length verdicts) ≡ a → left a .answer ≡ RunAnswer.Done outcome t → Lendable (deckOf s) (left a .labels) (left a .edges) (shapeIn t)
+      by (Refused r) p h = clash (cc)
+      by Accepted p h =
+          let P = passed s B last (length labels) (length edges) (length verdicts) p in
+          let m = construct (deckOf s) B last log in
+          let f : tallyOf m ≡ t = ap tallyIn h in
+          rw (← f) (lendable-at s labels (m .labels) (put edges (map rowOf (m .state .edges))) (shapeIn (tallyOf m)) (construct-labels (deckOf s) (sound s (P .deck)) B last log) refl
+          (run-fits s B last labels edges log verdicts (constructed-is P) P))
 
 -- a run that is done has passed every test
 pub done-passed : (s : List ℕ) (B : Bounds) (last : ℕ) (labels : List ℕ) (edges : List (List ℕ)) (log verdicts : List ℕ) (outcome : Outcome) (t : Tally)
