@@ -48,7 +48,7 @@ module _ (D : Deck) (W : Sound D) (floor : List ℕ) (F : Tidy D floor) (B : Bou
         by-cond (Kept D B m) (labelHas (getD (m .labels) e []) k) (workFacts D floor B e k m) m
         (walk-kept (suc e) (factStep D floor B e k) (D .facts) (fact-kept k) m h) (kept-same m)
 
-    classes-kept : (m : Model) → e < length (m .labels) → Kept D B m (workClasses D floor B e m)
+    pub classes-kept : (m : Model) → e < length (m .labels) → Kept D B m (workClasses D floor B e m)
     unfolding workClasses
     classes-kept = walk-kept (suc e) (classStep D floor B e) (range 0 (classCount D)) (λ k i. class-kept k)
 

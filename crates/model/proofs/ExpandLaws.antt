@@ -144,12 +144,12 @@ highest-is taken (suc n) e h = by (labelHas taken n) refl (λ q. highest-is take
 
 -- ---- turns
 module _ (D : Deck) (floor : List ℕ) (B : Bounds) (taken : List ℕ) (m : Model) where
-  turns-tripped : (f : ℕ) → m .state .tripped ≡ true → turns D floor B f taken m ≡ m
+  pub turns-tripped : (f : ℕ) → m .state .tripped ≡ true → turns D floor B f taken m ≡ m
   unfolding turns
   turns-tripped zero h = refl
   turns-tripped (suc f) h = cond-true (m .state .tripped) m _ h
 
-  turns-none : (f : ℕ) → highest taken (length (m .labels)) ≡ 0 → turns D floor B f taken m ≡ m
+  pub turns-none : (f : ℕ) → highest taken (length (m .labels)) ≡ 0 → turns D floor B f taken m ≡ m
   unfolding turns nextTurn
   turns-none zero h = refl
   turns-none (suc f) h = by (m .state .tripped)
@@ -158,7 +158,7 @@ module _ (D : Deck) (floor : List ℕ) (B : Bounds) (taken : List ℕ) (m : Mode
       by true = refl
       by false = rw h
 
-  turns-next : (f e : ℕ) → m .state .tripped ≡ false → highest taken (length (m .labels)) ≡ suc e → turns D floor B (suc f) taken m ≡ turns D floor B f (insertBit taken e) (workClasses D floor B e m)
+  pub turns-next : (f e : ℕ) → m .state .tripped ≡ false → highest taken (length (m .labels)) ≡ suc e → turns D floor B (suc f) taken m ≡ turns D floor B f (insertBit taken e) (workClasses D floor B e m)
   unfolding turns nextTurn
   turns-next f e t h = cond-false (m .state .tripped) m _ t ∙ rw h
 

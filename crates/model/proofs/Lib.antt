@@ -28,6 +28,7 @@ pub mod AntecedentLaws
 pub mod RoundLaws
 pub mod KeepLaws
 pub mod ExpandKeeps
+pub mod TurnLaws
 pub mod RoundKeeps
 pub mod PhaseKeeps
 pub mod PhaseLaws

@@ -58,7 +58,7 @@ module _ (D : Deck) (floor : List ℕ) (B : Bounds) where
   turns zero taken m = m
   turns (suc n) taken m = cond (m .state .tripped) m (nextTurn (turns n) taken m (highest taken (length (m .labels))))
 
-  -- there are at most 65,536 elements, and each is taken once: more turns change nothing, as the contract of `expand` says
+  -- there are at most 65,536 elements, and each is taken once: more turns change nothing, `expand-turns` of proofs/TurnLaws.antt
   abbrev pub expandIn : ℕ → Model → Model
   expandIn n m = turns n (replicate 1024 0) m
 
