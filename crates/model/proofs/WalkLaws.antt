@@ -30,7 +30,7 @@ walk-map f g [] s = refl
 walk-map f g (x ∷ xs) s = walk-map f g xs (f (g x) s)
 
 -- a walk over the lists that a list gives, one after the other
-walk-append : {A S : Type 0} (f : A → S → S) (xs ys : List A) (s : S) → walk f (xs ++ ys) s ≡ walk f ys (walk f xs s)
+pub walk-append : {A S : Type 0} (f : A → S → S) (xs ys : List A) (s : S) → walk f (xs ++ ys) s ≡ walk f ys (walk f xs s)
 unfolding walk
 walk-append f [] ys s = refl
 walk-append f (x ∷ xs) ys s = walk-append f xs ys (f x s)

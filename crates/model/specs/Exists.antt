@@ -1,11 +1,12 @@
 -- Building out a consequent (`materialise_exists`): document 01, section 3.
 use Prim.Native.Nat.{ℕ}
-use mathlib.Core.Bool.{true, false, cond}
-use mathlib.Core.List.{List, flatMap}
+use mathlib.Core.Bool.{Bool, true, false, cond}
+use mathlib.Core.List.{List, [], _∷_, _++_, map, flatMap}
 use mathlib.Core.Path.{_≡_}
-use lib.ListN.{replicate}
+use lib.ListN.{getD, replicate}
 use Rattle.deck.specs.Deck.{Deck, Concept, Role, conceptAt, classAt, roleAt}
 use Rattle.eval.specs.Lent.{labelWidth}
+use Rattle.eval.specs.Lists.{any}
 use Rattle.eval.specs.Numbered.{numbered}
 use Rattle.model.specs.declared.bounds.Bounds.{Bounds}
 use Rattle.model.specs.declared.body.Atoms.{Atoms}
@@ -79,6 +80,44 @@ module _ (D : Deck) where
 
   unfoldable pub bodyOf : ℕ → ℕ → List ℕ → ℕ → Body
   bodyOf r b log reasons = closeBody r (joinAtoms r b (record { label = replicate (labelWidth D) 0; log = log; atoms = noAtoms reasons }))
+
+-- ---- the same in the paper's words: `body-label` and `body-reasons` of proofs/BodyLaws.antt say that they are
+-- "chosen as above, except that an atom without a q gives its own row"
+abbrev pub rowBy : Deck → ℕ → Target → List ℕ
+rowBy D a (Row k) = rowOfClass D (k .0)
+rowBy D a (Delta k) = rowOfClass D (k .0)
+rowBy D a NotClosed = rowOfClass D a
+
+-- "and reason RunDelta(y)"
+abbrev pub deltaBy : ℕ → Target → List Reason
+deltaBy a (Row k) = []
+deltaBy a (Delta k) = runDelta a ∷ []
+deltaBy a NotClosed = []
+
+-- "an atom without a q"
+abbrev pub openBy : Target → Bool
+openBy (Row k) = false
+openBy (Delta k) = false
+openBy NotClosed = true
+
+module _ (D : Deck) (r : ℕ) where
+  abbrev pub atomRow : ℕ → List ℕ
+  atomRow a = rowBy D a (targetOf D a r)
+
+  abbrev pub atomDelta : ℕ → List Reason
+  atomDelta a = deltaBy a (targetOf D a r)
+
+  abbrev pub atomOpen : ℕ → Bool
+  atomOpen a = openBy (targetOf D a r)
+
+  -- "joins the labels of its body's required atoms …; a body without atoms takes the rows of r's range classes"
+  abbrev pub classesOf : List ℕ → List ℕ
+  classesOf [] = flatMap (rowOfClass D) (roleAt D r .range)
+  classesOf (a ∷ ks) = flatMap atomRow (a ∷ ks)
+
+  -- the RunDeltas in order, "and one LabelNotClosed(first atom, r) then follows all of them"
+  abbrev pub reasonsOf : List ℕ → List Reason
+  reasonsOf ks = flatMap atomDelta ks ++ cond (any (map atomOpen ks)) (labelNotClosed (getD ks 0 0) r ∷ []) []
 
 -- the model after the reasons of a body
 abbrev pub withReasons : Model → Body → Model

@@ -33,3 +33,11 @@ noted log total r = cond (ltb total 4294967295 && ltb total (length log / 3)) (l
 -- "the total stops at 4,294,967,295": the total after one more
 unfoldable pub counted : ℕ → ℕ
 counted total = cond (ltb total 4294967295) (total + 1) total
+
+-- the log and the total of reasons, after one more
+pub record Log : Type 0 where
+  pub words : List ℕ
+  pub total : ℕ
+
+abbrev pub note : Reason → Log → Log
+note x g = record { words = noted (g .words) (g .total) x; total = counted (g .total) }
