@@ -17,6 +17,7 @@ pub mod KeyLaws
 pub mod GoingLaws
 pub mod Closed
 pub mod ClosingSpecimens
+pub mod RunSpecimens
 pub mod TargetLaws
 pub mod BuildLaws
 pub mod ExpandLaws
