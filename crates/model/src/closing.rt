@@ -1,4 +1,5 @@
 // Closing the edges under two-link chains and transitive roles, until a pass adds nothing.
+ghost use mathlib.Core.Path.{_≡_};
 ghost use Prim.Native.Nat.{_*_, _<_};
 ghost use Rattle.deck.specs.Content.{IsAccepted, deckOf};
 ghost use Rattle.deck.specs.Deck.{axiomAt, axiomCount, roleCount};
@@ -50,13 +51,14 @@ fn join(
     add_edge(limit, edges, log, t, e)
 }
 
-// From the pair k: each edge of b that goes on from it, as they stand when this begins.
+// From the pair k: each edge of b that goes on from it, among the first `seen` edges: all that there are when this begins.
 fn close_from(
     deck: &[u8],
     limit: u32,
     edges: &mut [[u32; 3]],
     log: &mut [u32],
     t: Tally,
+    seen: u32,
     b: RoleId,
     v: RoleId,
     k: u64,
@@ -65,6 +67,7 @@ fn close_from(
     requires { ⌜ b .0 < roleCount (deckOf (now deck)) ⌝ }
     requires { ⌜ v .0 < roleCount (deckOf (now deck)) ⌝ }
     requires { ⌜ k < t .elements * 65536 ⌝ }
+    requires { ⌜ seen ≡ t .edges ⌝ }
     ensures { λ r. ⌜ Left limit (now (edges .entry)) (now (log .entry)) t (now (edges .exit)) (now (log .exit)) r (spec.closeFrom (deckOf (now (deck .entry))) (t .elements) limit (b .0) (v .0) (pairOf k) (start (now (edges .entry)) (now (log .entry)) t)) ⌝ }
 {
     let x = (k / 65536) as u32;
@@ -73,7 +76,7 @@ fn close_from(
     let mut after = from;
     let mut held = t;
     loop {
-        let found = next_pair(deck, edges, t.edges, b, after, end);
+        let found = next_pair(deck, edges, seen, b, after, end);
         let Found::At(j) = found else {
             return Step {
                 tally: held,
@@ -119,7 +122,7 @@ fn close_rule(
                 tripped: false,
             };
         };
-        let s = close_from(deck, limit, edges, log, held, b, v, k);
+        let s = close_from(deck, limit, edges, log, held, held.edges, b, v, k);
         let tripped = s.tripped;
         if tripped {
             return s;

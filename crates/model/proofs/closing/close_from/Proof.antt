@@ -17,13 +17,13 @@ use Rattle.model.proofs.closing.join.Reads as join-reads
 use Rattle.model.proofs.pairs.next_pair.Reads as next-pair-reads
 
 abbrev Inv-loop : tie.InvT-loop
-Inv-loop deck limit edges₀ log₀ t b v k x from end after₀ held₀ edges log after held = Going (deckOf deck) limit (λ j. join (deckOf deck) (t .elements) limit (v .0) (k / 65536) (j % 65536)) (b .0) from end edges₀ log₀ t edges log held after
+Inv-loop deck limit edges₀ log₀ seen b v k x from end after₀ held₀ edges log after held = Going (deckOf deck) limit (λ j. join (deckOf deck) (held₀ .elements) limit (v .0) (k / 65536) (j % 65536)) (b .0) from end edges₀ log₀ held₀ edges log held after
 
 abbrev μ-loop : tie.MeasureT-loop
-μ-loop deck limit edges₀ log₀ t b v k x from end after₀ held₀ edges log after held = end - after
+μ-loop deck limit edges₀ log₀ seen b v k x from end after₀ held₀ edges log after held = end - after
 
 cast-x : tie.Need-cast-x Inv-loop μ-loop
-cast-x c = let z = c .before .before in omega (arith, z .pre .0 .few, z .pre .1 .1 .1)
+cast-x c = let z = c .before .before in omega (arith, z .pre .0 .few, z .pre .1 .1 .1 .0)
 
 mul-from : tie.Need-mul-from Inv-loop μ-loop
 mul-from c = omega arith
@@ -40,8 +40,9 @@ loop-holds c = going-start _ _ _ _ _ _ _ _ _ (c .before .before .before .pre .0 
 next-pair-requires : tie.Need-next-pair-requires Inv-loop μ-loop
 next-pair-requires c κs =
     let R = c .before .before .before .before .before .pre .0 in
+    let q = c .before .before .before .before .before .pre .1 .1 .1 .1 in
     let G = c .before .loop .inv in
-    (R .accepted, (c .before .before .before .before .before .pre .1 .0, (omega (arith, G .on .left .size, R .space .bound, R .space .room), (rw (G .on .left .old) (fits-ends _ _ (R .few) _ (R .fits)), G .le))))
+    (R .accepted, (c .before .before .before .before .before .pre .1 .0, (omega (arith, G .on .left .size, R .space .bound, R .space .room, q), (rw (q, G .on .left .old) (fits-ends _ _ (R .few) _ (R .fits)), G .le))))
 
 enum-known-found : tie.Need-enum-known-found Inv-loop μ-loop
 enum-known-found c = search needs
@@ -59,7 +60,7 @@ returns : tie.Need-returns Inv-loop μ-loop
 returns c =
     let z = c .before .before .before .before .before .before .before .before in
     let n : z .args .k % 65536 * 65536 + z .args .t .elements - z .args .k % 65536 * 65536 ≡ z .args .t .elements = omega arith in
-    left-is (rw n at (going-done _ _ _ _ _ _ _ _ _ (c .before .before .before .before .loop .inv) (c .before .before .next-pair .ensures) (c .enum-told .given .1))) (from-keys _ _ _ (z .pre .0 .few) _ _ _ (pairOf (z .args .k)))
+    left-is (rw n at (going-done _ _ _ _ _ _ _ _ _ (c .before .before .before .before .loop .inv) (rw (c .before .before .before .before .before .before .before .before .pre .1 .1 .1 .1) at (c .before .before .next-pair .ensures)) (c .enum-told .given .1))) (from-keys _ _ _ (z .pre .0 .few) _ _ _ (pairOf (z .args .k)))
 
 cast-z : tie.Need-cast-z Inv-loop μ-loop
 cast-z c = omega arith
@@ -78,20 +79,20 @@ returns-2 c =
     let z = c .before .before .before .before .before .before .before .before .before .before .before .before .before .before .before .before in
     let G = c .before .before .before .before .before .before .before .before .before .before .before .before .loop .inv in
     let n : z .args .k % 65536 * 65536 + z .args .t .elements - z .args .k % 65536 * 65536 ≡ z .args .t .elements = omega arith in
-    left-is (rw n at (going-stop _ _ _ _ _ _ _ _ _ G (c .before .before .before .before .before .before .before .before .before .before .next-pair .ensures) (c .before .before .before .before .before .before .before .before .found .given .1) (left-is (c .before .before .before .before .join .ensures) (join-same _ _ (G .on .left .elements) _ _ _ _)) (λ i u e. join-stuck _ _ _ _ _ _ u e) (c .if1 .taken))) (from-keys _ _ _ (z .pre .0 .few) _ _ _ (pairOf (z .args .k)))
+    left-is (rw n at (going-stop _ _ _ _ _ _ _ _ _ G (rw (c .before .before .before .before .before .before .before .before .before .before .before .before .before .before .before .before .pre .1 .1 .1 .1) at (c .before .before .before .before .before .before .before .before .before .before .next-pair .ensures)) (c .before .before .before .before .before .before .before .before .found .given .1) (left-is (c .before .before .before .before .join .ensures) (join-same _ _ (G .on .left .elements) _ _ _ _)) (λ i u e. join-stuck _ _ _ _ _ _ u e) (c .if1 .taken))) (from-keys _ _ _ (z .pre .0 .few) _ _ _ (pairOf (z .args .k)))
 
 add-after : tie.Need-add-after Inv-loop μ-loop
-add-after c = omega (arith, going-below _ _ _ _ _ _ _ _ _ (c .before .before .before .before .before .before .before .before .before .before .before .before .before .loop .inv) (c .before .before .before .before .before .before .before .before .before .before .before .next-pair .ensures) (c .before .before .before .before .before .before .before .before .before .found .given .1))
+add-after c = omega (arith, going-below _ _ _ _ _ _ _ _ _ (c .before .before .before .before .before .before .before .before .before .before .before .before .before .loop .inv) (rw (c .before .before .before .before .before .before .before .before .before .before .before .before .before .before .before .before .before .pre .1 .1 .1 .1) at (c .before .before .before .before .before .before .before .before .before .before .before .next-pair .ensures)) (c .before .before .before .before .before .before .before .before .before .found .given .1))
 
 loop-less : tie.Need-loop-less Inv-loop μ-loop
 loop-less c =
     let G = c .before .before .before .before .before .before .before .before .before .before .before .before .before .loop .inv in
-    omega (arith, going-below _ _ _ _ _ _ _ _ _ G (c .before .before .before .before .before .before .before .before .before .before .before .next-pair .ensures) (c .before .before .before .before .before .before .before .before .before .found .given .1), going-past _ _ _ _ _ _ _ _ _ G (c .before .before .before .before .before .before .before .before .before .before .before .next-pair .ensures) (c .before .before .before .before .before .before .before .before .before .found .given .1))
+    omega (arith, going-below _ _ _ _ _ _ _ _ _ G (rw (c .before .before .before .before .before .before .before .before .before .before .before .before .before .before .before .before .before .pre .1 .1 .1 .1) at (c .before .before .before .before .before .before .before .before .before .before .before .next-pair .ensures)) (c .before .before .before .before .before .before .before .before .before .found .given .1), going-past _ _ _ _ _ _ _ _ _ G (rw (c .before .before .before .before .before .before .before .before .before .before .before .before .before .before .before .before .before .pre .1 .1 .1 .1) at (c .before .before .before .before .before .before .before .before .before .before .before .next-pair .ensures)) (c .before .before .before .before .before .before .before .before .before .found .given .1))
 
 loop-again : tie.Need-loop-again Inv-loop μ-loop
 loop-again c =
     let G = c .before .before .before .before .before .before .before .before .before .before .before .before .before .loop .inv in
-    going-next _ _ _ _ _ _ _ _ _ G (c .before .before .before .before .before .before .before .before .before .before .before .next-pair .ensures) (c .before .before .before .before .before .before .before .before .before .found .given .1) (left-is (c .before .before .before .before .before .join .ensures) (join-same _ _ (G .on .left .elements) _ _ _ _)) (c .before .if1 .left)
+    going-next _ _ _ _ _ _ _ _ _ G (rw (c .before .before .before .before .before .before .before .before .before .before .before .before .before .before .before .before .before .pre .1 .1 .1 .1) at (c .before .before .before .before .before .before .before .before .before .before .before .next-pair .ensures)) (c .before .before .before .before .before .before .before .before .before .found .given .1) (left-is (c .before .before .before .before .before .join .ensures) (join-same _ _ (G .on .left .elements) _ _ _ _)) (c .before .if1 .left)
 
 pub close-from-spec : {M : Type 1} → statement M
 close-from-spec =

@@ -1,7 +1,7 @@
 use borrow.Author.Needs.{needs}
 use native.Mathlib.Omega.{arith}
 use Prim.Native.Nat.{_-_}
-use mathlib.Core.Path.{_∙_}
+use mathlib.Core.Path.{refl, _∙_}
 use Rattle.deck.specs.Content.{deckOf}
 use native.Mathlib.Nat.{sub-zero}
 use Rattle.model.specs.Pairs.{pairOf}
@@ -57,7 +57,7 @@ close-from-requires : tie.Need-close-from-requires Inv-loop μ-loop
 close-from-requires c κs =
     let z = c .before .before .before .before .before .before .before .before .before .before .before in
     let G = c .before .before .before .before .before .before .before .loop .inv .0 in
-    (c .before .before .before .before .before .before .before .loop .inv .1, (z .pre .1 .1 .0, (z .pre .1 .1 .1, omega (arith, G .on .left .elements, going-below _ _ _ _ _ _ _ _ _ G (c .before .before .before .before .before .next-pair .ensures) (c .before .before .before .found .given .1)))))
+    (c .before .before .before .before .before .before .before .loop .inv .1, (z .pre .1 .1 .0, (z .pre .1 .1 .1, (omega (arith, G .on .left .elements, going-below _ _ _ _ _ _ _ _ _ G (c .before .before .before .before .before .next-pair .ensures) (c .before .before .before .found .given .1)), refl))))
 
 same-length-3 : tie.Need-same-length-3 Inv-loop μ-loop
 same-length-3 c = c .before .before .before .before .close-from .ensures .size ∙ c .before .before .before .before .before .before .before .before .before .before .before .before .loop .inv .0 .on .left .size
