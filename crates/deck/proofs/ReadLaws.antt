@@ -26,7 +26,7 @@ use Rattle.deck.specs.Deck.{InjectedEntry, injectedClass, classCount, ro
 use Rattle.deck.specs.Content.{IsAccepted, deckOf, listAt, table, classIn, roleIn, injectedIn, conceptIn, axiomIn, axiomOf, factIn}
 use Rattle.deck.specs.Sound.{countsIn}
 use Rattle.deck.specs.Exprs.{exprAt}
-use Rattle.deck.specs.Reads.{ListFits, RowRead, ConceptRead, AxiomRead, FactRead, InjectedRead, FormFits, exprOf, ExprFits, injectedKey, RealClass}
+use Rattle.deck.specs.Reads.{listOf, ListFits, spanAt, axiomWords, RowRead, ConceptRead, AxiomRead, FactRead, InjectedRead, FormFits, exprOf, ExprFits, injectedKey, RealClass}
 use Rattle.deck.proofs.BelowLaws.{and-left, and-right}
 use Rattle.deck.proofs.TableLaws.{table-length, table-at}
 use Rattle.deck.proofs.TrailerLaws.{count-within}
@@ -38,9 +38,15 @@ use Rattle.deck.proofs.SoundLaws
 use Rattle.deck.proofs.SearchLaws.{Rising}
 
 -- ---- rows
-module _ (s : List ℕ) (n start count : ℕ) where
-  row-read : rowShape s start count n ≡ true → rowRises s start count ≡ true → RowRead s n (listAt s start count) (record { start = start; count = count })
-  row-read a b = record { is = refl; fits = list-fits s start count n a; rises = list-rises s start count b }
+module _ (s : List ℕ) (n p k f : ℕ) where
+  row-read : rowShape s (partWord s p k f) (partWord s p k (f + 1)) n ≡ true → rowRises s (partWord s p k f) (partWord s p k (f + 1)) ≡ true
+      → RowRead s n (listOf s (spanAt s p k f)) p k f (spanAt s p k f)
+  row-read a b = record {
+    is = refl;
+    fits = list-fits s (partWord s p k f) (partWord s p k (f + 1)) n a;
+    rises = list-rises s (partWord s p k f) (partWord s p k (f + 1)) b;
+    words = refl;
+  }
 
 module _ (s : List ℕ) (h : IsAccepted s) (k : ℕ) where
   pub class-place : k < classCount (deckOf s) → k < partCount s 0
@@ -62,12 +68,12 @@ module _ (s : List ℕ) (h : IsAccepted s) (k : ℕ) where
   unfolding classIn
   flag-read l = rw (DeckLaws.class-at s k (class-place l))
 
-  pub subsumers-read : k < classCount (deckOf s) → RowRead s (classCount (deckOf s)) (classAt (deckOf s) k .row) (record { start = partWord s 0 k 1; count = partWord s 0 k 2 })
+  pub subsumers-read : k < classCount (deckOf s) → RowRead s (classCount (deckOf s)) (classAt (deckOf s) k .row) 0 k 1 (spanAt s 0 k 1)
   unfolding classIn
   subsumers-read l =
       let m = class-place l in
       rw (DeckLaws.class-at s k m, DeckLaws.class-count s)
-      (row-read s (partCount s 0) (partWord s 0 k 1) (partWord s 0 k 2) (and-right (ltb (partWord s 0 k 0) 2) _ (AcceptedLaws.class-shape s h k m)) (and-left (rowRises s (partWord s 0 k 1) (partWord s 0 k 2)) _ (AcceptedLaws.class-order s h k m)))
+      (row-read s (partCount s 0) 0 k 1 (and-right (ltb (partWord s 0 k 0) 2) _ (AcceptedLaws.class-shape s h k m)) (and-left (rowRises s (partWord s 0 k 1) (partWord s 0 k 2)) _ (AcceptedLaws.class-order s h k m)))
 
   module _ (l : k < roleCount (deckOf s)) where
     subs-fit : rowShape s (partWord s 1 k 0) (partWord s 1 k 1) (partCount s 1) ≡ true
@@ -76,33 +82,39 @@ module _ (s : List ℕ) (h : IsAccepted s) (k : ℕ) where
     range-fits : rowShape s (partWord s 1 k 2) (partWord s 1 k 3) (partCount s 0) ≡ true
     range-fits = and-right (rowShape s (partWord s 1 k 0) (partWord s 1 k 1) (partCount s 1)) _ (AcceptedLaws.role-shape s h k (role-place l))
 
-    pub sub-roles-read : RowRead s (roleCount (deckOf s)) (roleAt (deckOf s) k .subRoles) (record { start = partWord s 1 k 0; count = partWord s 1 k 1 })
+    pub sub-roles-read : RowRead s (roleCount (deckOf s)) (roleAt (deckOf s) k .subRoles) 1 k 0 (spanAt s 1 k 0)
     unfolding roleIn
     sub-roles-read =
         rw (DeckLaws.role-at s k (role-place l), DeckLaws.role-count s)
-        (row-read s (partCount s 1) (partWord s 1 k 0) (partWord s 1 k 1) subs-fit
+        (row-read s (partCount s 1) 1 k 0 subs-fit
         (and-left (rowRises s (partWord s 1 k 0) (partWord s 1 k 1)) _ (AcceptedLaws.role-order s h k (role-place l))))
 
-    pub range-read : RowRead s (classCount (deckOf s)) (roleAt (deckOf s) k .range) (record { start = partWord s 1 k 2; count = partWord s 1 k 3 })
+    pub range-read : RowRead s (classCount (deckOf s)) (roleAt (deckOf s) k .range) 1 k 2 (spanAt s 1 k 2)
     unfolding roleIn
     range-read =
         rw (DeckLaws.role-at s k (role-place l), DeckLaws.class-count s)
-        (row-read s (partCount s 0) (partWord s 1 k 2) (partWord s 1 k 3) range-fits
+        (row-read s (partCount s 0) 1 k 2 range-fits
         (and-left (rowRises s (partWord s 1 k 2) (partWord s 1 k 3)) _
         (and-right (rowRises s (partWord s 1 k 0) (partWord s 1 k 1)) _ (AcceptedLaws.role-order s h k (role-place l)))))
 
   -- ---- concepts, axioms, facts
+  concept-form : k < conceptCount (deckOf s) → FormFits s k (conceptForm (partWord s 3 k 0)) (partWord s 3 k 1) (partWord s 3 k 2) (partWord s 3 k 3)
+  concept-form l = form-fits s k 3 k 1 (conceptForm (partWord s 3 k 0)) (AcceptedLaws.concept-shape s h k (concept-place l))
+
+  pub concept-known : k < conceptCount (deckOf s) → partWord s 3 k 0 < 12
+  concept-known l = TagLaws.known-concept s k (partWord s 3 k 0) (partWord s 3 k 1) (partWord s 3 k 2) (partWord s 3 k 3) (concept-form l)
+
   pub concept-read : k < conceptCount (deckOf s) → ConceptRead s k (exprAt (partWord s 3 k 0) (partWord s 3 k 1) (partWord s 3 k 2) (partWord s 3 k 3))
   unfolding conceptIn
   concept-read l =
-      let m = concept-place l in
-      let f = form-fits s k 3 k 1 (conceptForm (partWord s 3 k 0)) (AcceptedLaws.concept-shape s h k m) in
+      let f = concept-form l in
       record {
-        is = rw (DeckLaws.concept-at s k m) (TagLaws.expr-is s k (partWord s 3 k 0) (partWord s 3 k 1) (partWord s 3 k 2) (partWord s 3 k 3) f);
+        is = rw (DeckLaws.concept-at s k (concept-place l)) (TagLaws.expr-is s k (partWord s 3 k 0) (partWord s 3 k 1) (partWord s 3 k 2) (partWord s 3 k 3) f);
         fits = TagLaws.expr-fits s k (partWord s 3 k 0) (partWord s 3 k 1) (partWord s 3 k 2) (partWord s 3 k 3) f;
+        words = refl;
       }
 
-  pub axiom-read : k < axiomCount (deckOf s) → AxiomRead s k (record { tag = partWord s 4 k 0; first = partWord s 4 k 1; second = partWord s 4 k 2; third = partWord s 4 k 3 })
+  pub axiom-read : k < axiomCount (deckOf s) → AxiomRead s k (axiomWords s k)
   unfolding axiomIn
   axiom-read l =
       let m = axiom-place l in
@@ -111,6 +123,7 @@ module _ (s : List ℕ) (h : IsAccepted s) (k : ℕ) where
         is = rw (DeckLaws.axiom-at s k m);
         known = TagLaws.known-axiom s (partCount s 3) (partWord s 4 k 0) (partWord s 4 k 1) (partWord s 4 k 2) (partWord s 4 k 3) f;
         fits = rw (DeckLaws.concept-count s) f;
+        words = refl;
       }
 
   pub fact-read : k < factCount (deckOf s) → FactRead s k (record { from = record { 0 = partWord s 5 k 0 }; role = record { 0 = partWord s 5 k 1 }; to = record { 0 = partWord s 5 k 2 } })

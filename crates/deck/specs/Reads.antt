@@ -17,6 +17,7 @@ use Rattle.deck.specs.Forms.{Counts, boundOf}
 use Rattle.deck.specs.Records.{axiomForm}
 use Rattle.deck.specs.Deck.{Concept, Deck, injectedClass, roleOf, Fact, conceptAt, axiomAt, factAt, classCount, roleCount, conceptCount}
 use Rattle.deck.specs.Content.{listAt, axiomOf, deckOf}
+use Rattle.deck.specs.Exprs.{exprAt}
 use Rattle.deck.specs.Sound.{EachBelow, Rises, countsIn, FactFits}
 
 -- a count, and its limit
@@ -37,11 +38,16 @@ pub record ListFits (s : List ℕ) (bound : ℕ) (l : Span) : Type 0 where
   pub within : Within s l
   pub below : EachBelow bound (listOf s l)
 
--- a row: it rises besides
-pub record RowRead (s : List ℕ) (bound : ℕ) (row : List ℕ) (r : Span) : Type 0 where
+-- "row start; row count": the start and the count that stand at fields f and f + 1 of record k of part p
+abbrev pub spanAt : List ℕ → ℕ → ℕ → ℕ → Span
+spanAt s p k f = record { start = partWord s p k f; count = partWord s p k (f + 1) }
+
+-- a row: it rises besides; its start and count are those of the record
+pub record RowRead (s : List ℕ) (bound : ℕ) (row : List ℕ) (p k f : ℕ) (r : Span) : Type 0 where
   pub is : listOf s r ≡ row
   pub fits : ListFits s bound r
   pub rises : Rises (listOf s r)
+  pub words : r ≡ spanAt s p k f
 
 -- what three fields hold
 abbrev pub FormFits : List ℕ → ℕ → Form → ℕ → ℕ → ℕ → Type 0
@@ -83,16 +89,22 @@ ExprFits s k (ConceptExpr.All r c) = (r .0 < 2 * roleCount (deckOf s)) × (c .0 
 ExprFits s k (ConceptExpr.Min n r c) = (r .0 < 2 * roleCount (deckOf s)) × (c .0 < k)
 ExprFits s k (ConceptExpr.Max n r c) = (r .0 < 2 * roleCount (deckOf s)) × (c .0 < k)
 
--- concept k
+-- concept k, as the four words of its record give it
 pub record ConceptRead (s : List ℕ) (k : ℕ) (r : ConceptExpr) : Type 0 where
   pub is : exprOf s r ≡ conceptAt (deckOf s) k
   pub fits : ExprFits s k r
+  pub words : r ≡ exprAt (partWord s 3 k 0) (partWord s 3 k 1) (partWord s 3 k 2) (partWord s 3 k 3)
+
+-- "tag and three fields": the four words of axiom k
+abbrev pub axiomWords : List ℕ → ℕ → AxiomRecord
+axiomWords s k = record { tag = partWord s 4 k 0; first = partWord s 4 k 1; second = partWord s 4 k 2; third = partWord s 4 k 3 }
 
 -- axiom k: its tag, and three fields of that tag's form
 pub record AxiomRead (s : List ℕ) (k : ℕ) (r : AxiomRecord) : Type 0 where
   pub is : axiomOf s (r .tag) (r .first) (r .second) (r .third) ≡ axiomAt (deckOf s) k
   pub known : r .tag < 26
   pub fits : FormFits s (conceptCount (deckOf s)) (axiomForm (r .tag)) (r .first) (r .second) (r .third)
+  pub words : r ≡ axiomWords s k
 
 -- fact k
 abbrev pub factOf : FactRecord → Fact

@@ -37,7 +37,7 @@ pub fn is_unsatisfiable(deck: &[u8], class: ClassId) -> bool
 pub fn subsumers_of(deck: &[u8], class: ClassId) -> Span
     requires { ⌜ IsAccepted (now deck) ⌝ }
     requires { ⌜ class .0 < classCount (deckOf (now deck)) ⌝ }
-    ensures { λ r. ⌜ RowRead (now (deck .entry)) (classCount (deckOf (now (deck .entry)))) (classAt (deckOf (now (deck .entry))) (class .0) .row) r ⌝ }
+    ensures { λ r. ⌜ RowRead (now (deck .entry)) (classCount (deckOf (now (deck .entry)))) (classAt (deckOf (now (deck .entry))) (class .0) .row) 0 (class .0) 1 r ⌝ }
 {
     let k = class.0 as usize;
     Span {

@@ -21,7 +21,7 @@ pub fn role_count(deck: &[u8]) -> u32
 pub fn sub_roles(deck: &[u8], role: RoleId) -> Span
     requires { ⌜ IsAccepted (now deck) ⌝ }
     requires { ⌜ role .0 < roleCount (deckOf (now deck)) ⌝ }
-    ensures { λ r. ⌜ RowRead (now (deck .entry)) (roleCount (deckOf (now (deck .entry)))) (roleAt (deckOf (now (deck .entry))) (role .0) .subRoles) r ⌝ }
+    ensures { λ r. ⌜ RowRead (now (deck .entry)) (roleCount (deckOf (now (deck .entry)))) (roleAt (deckOf (now (deck .entry))) (role .0) .subRoles) 1 (role .0) 0 r ⌝ }
 {
     let k = role.0 as usize;
     Span {
@@ -34,7 +34,7 @@ pub fn sub_roles(deck: &[u8], role: RoleId) -> Span
 pub fn range_of(deck: &[u8], role: RoleId) -> Span
     requires { ⌜ IsAccepted (now deck) ⌝ }
     requires { ⌜ role .0 < roleCount (deckOf (now deck)) ⌝ }
-    ensures { λ r. ⌜ RowRead (now (deck .entry)) (classCount (deckOf (now (deck .entry)))) (roleAt (deckOf (now (deck .entry))) (role .0) .range) r ⌝ }
+    ensures { λ r. ⌜ RowRead (now (deck .entry)) (classCount (deckOf (now (deck .entry)))) (roleAt (deckOf (now (deck .entry))) (role .0) .range) 1 (role .0) 2 r ⌝ }
 {
     let k = role.0 as usize;
     Span {
