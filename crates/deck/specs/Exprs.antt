@@ -22,5 +22,6 @@ exprs x y z =
     Max x (record { 0 = y }) (record { 0 = z }) ∷
     []
 
+-- what stands for an unknown tag is never asked for
 unfoldable pub exprAt : ℕ → ℕ → ℕ → ℕ → ConceptExpr
 exprAt tag x y z = getD (exprs x y z) tag Top

@@ -37,6 +37,7 @@ pub fn concept_count(deck: &[u8]) -> u32
 }
 
 fn expr(tag: u32, x: u32, y: u32, z: u32) -> ConceptExpr
+    requires { ⌜ tag < 12 ⌝ }
     ensures { λ r. ⌜ r ≡ exprAt tag x y z ⌝ }
 {
     match tag {
@@ -51,8 +52,7 @@ fn expr(tag: u32, x: u32, y: u32, z: u32) -> ConceptExpr
         8 => ConceptExpr::Some(RoleWord(x), ConceptId(y)),
         9 => ConceptExpr::All(RoleWord(x), ConceptId(y)),
         10 => ConceptExpr::Min(x, RoleWord(y), ConceptId(z)),
-        11 => ConceptExpr::Max(x, RoleWord(y), ConceptId(z)),
-        12..=4294967295 => ConceptExpr::Top,
+        _ => ConceptExpr::Max(x, RoleWord(y), ConceptId(z)),
     }
 }
 

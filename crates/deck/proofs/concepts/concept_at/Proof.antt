@@ -1,4 +1,4 @@
-use Rattle.deck.proofs.ReadLaws.{concept-place, concept-read}
+use Rattle.deck.proofs.ReadLaws.{concept-place, concept-known, concept-read}
 use Rattle.deck.proofs.AcceptedLaws.{framed}
 use mathlib.Core.Path.{_≡_, sym, _∙_}
 use native.Mathlib.Omega.{arith}
@@ -34,7 +34,9 @@ part-word-requires-4 c κs =
     (framed _ (at .pre .0), (omega arith, (concept-place _ (at .pre .0) _ (at .pre .1), omega arith)))
 
 expr-requires : tie.Need-expr-requires
-expr-requires c κs = search needs
+expr-requires c κs =
+    let at = c .before .before .before .before .before .before in
+    rw (c .before .before .before .part-word .ensures) (concept-known _ (at .pre .0) (at .args .concept .0) (at .pre .1))
 
 returns : tie.Need-returns
 returns c =

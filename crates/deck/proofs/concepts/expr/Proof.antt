@@ -1,7 +1,6 @@
-use mathlib.Core.Path.{sym}
-use lib.ListN.{List·getD-eq-default}
-use Rattle.deck.specs.Exprs.{exprs, exprAt}
-use Rattle.deck.specs.declared.concepts.ConceptExpr.the-variants.{Top}
+use mathlib.Core.Path.{_≡_}
+use native.Mathlib.Omega.{arith}
+use Rattle.deck.specs.Exprs.{exprAt}
 use Rattle.deck.proofs.MatchLaws.{at-least}
 use Rattle.deck.proofs.concepts.expr.Statement.{statement}
 use Rattle.deck.proofs.concepts.expr.Tie as tie
@@ -54,11 +53,10 @@ returns-11 c = rw (c .match .keys11)
 
 returns-12 : tie.Need-returns-12
 unfolding exprAt
-returns-12 c = rw (c .match .keys12)
-
-returns-13 : tie.Need-returns-13
-unfolding exprAt
-returns-13 c = sym (List·getD-eq-default (exprs _ _ _) Top {n = c .before .args .tag} (at-least (c .before .args .tag) 12 (c .match .rest)))
+returns-12 c =
+    let tag = c .before .args .tag in
+    let last : tag ≡ 11 = omega (arith, at-least tag 11 (c .match .rest)) in
+    rw last
 
 pub expr-spec : {M : Type 1} → statement M
 expr-spec =
@@ -75,5 +73,4 @@ expr-spec =
     returns-9
     returns-10
     returns-11
-    returns-12
-    returns-13)
+    returns-12)
