@@ -17,6 +17,7 @@ use Rattle.deck.specs.declared.DeckAnswer.the-variants.{Accepted, Refuse
 use Rattle.deck.specs.Answer.{unless, trailerAnswer, Framed}
 use Rattle.deck.specs.Word.{trailerAt}
 use Rattle.deck.specs.Trailer.{limitOf, widthOf, wordsBefore, partCount, partStart, startsFit, startFits, countsFit, countFits, layoutFits, bodyCount, realOf, edition}
+use Rattle.deck.specs.Parts.{partPlace}
 use Rattle.deck.proofs.AnswerLaws.{unless-test, unless-rest}
 use Rattle.deck.proofs.BelowLaws.{and-left, and-right, all-at}
 
@@ -95,7 +96,8 @@ module _ (s : List ℕ) (h : Framed s) where
   real-within = leb-true (realOf s) (partCount s 0) (and-right (eqb (bodyCount s) (trailerAt s)) _ rest2)
 
   -- each record of a part lies before the trailer
-  pub in-part : (p k f : ℕ) → p < 7 → k < partCount s p → f < widthOf p → partStart s p + k * widthOf p + f < trailerAt s
+  pub in-part : (p k f : ℕ) → p < 7 → k < partCount s p → f < widthOf p → partPlace s p k f < trailerAt s
+  unfolding partPlace
   in-part p k f l lk lf =
       omega
       (arith, starts-at p l, before-le s p 7 l, ends-at, mul-le-mul-right (widthOf p) lk, suc-mul k (widthOf p))

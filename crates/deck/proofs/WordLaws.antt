@@ -5,8 +5,7 @@ use Prim.Native.Nat.{ℕ, _+_, _*_, _<_}
 use native.Mathlib.Omega.{arith}
 use lib.ListN.{getD}
 use Rattle.deck.specs.Word.{wordAt}
-use Rattle.deck.specs.Trailer.{partStart, widthOf}
-use Rattle.deck.specs.Parts.{partWord, listWord}
+use Rattle.deck.specs.Parts.{partPlace, partWord, listWord}
 
 module _ (s : List ℕ) (byte : (i : ℕ) → getD s i 0 < 256) where
   word-small : (at : ℕ) → wordAt s at < 4294967296
@@ -15,4 +14,4 @@ module _ (s : List ℕ) (byte : (i : ℕ) → getD s i 0 < 256) where
 
   pub list-word-small : (i : ℕ) → listWord s i < 4294967296
   unfolding partWord
-  list-word-small i = word-small (partStart s 6 + i * widthOf 6 + 0)
+  list-word-small i = word-small (partPlace s 6 i 0)

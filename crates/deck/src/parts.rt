@@ -4,7 +4,7 @@ ghost use Prim.Native.Nat.{_+_, _*_, _<_, _≤_};
 ghost use lib.ListN.{length};
 ghost use Rattle.deck.specs.Answer.{Framed};
 ghost use Rattle.deck.specs.Trailer.{partCount, widthOf, realOf};
-ghost use Rattle.deck.specs.Parts.{partWord, listWord};
+ghost use Rattle.deck.specs.Parts.{partPlace, partWord, listWord};
 use crate::trailer;
 use crate::words;
 
@@ -25,6 +25,17 @@ pub fn real(deck: &[u8]) -> usize
     trailer::trailer_word(deck, 1) as usize
 }
 
+// The place of field f of record k of part p, counted in words from word 0.
+pub fn part_place(deck: &[u8], p: usize, k: usize, f: usize) -> usize
+    requires { ⌜ Framed (now deck) ⌝ }
+    requires { ⌜ p < 7 ⌝ }
+    requires { ⌜ k < partCount (now deck) p ⌝ }
+    requires { ⌜ f < widthOf p ⌝ }
+    ensures { λ r. ⌜ r ≡ partPlace (now (deck .entry)) p k f ⌝ }
+{
+    trailer::part_start(deck, p) as usize + k * trailer::width(p) + f
+}
+
 // Field f of record k of part p.
 pub fn part_word(deck: &[u8], p: usize, k: usize, f: usize) -> u32
     requires { ⌜ Framed (now deck) ⌝ }
@@ -33,10 +44,7 @@ pub fn part_word(deck: &[u8], p: usize, k: usize, f: usize) -> u32
     requires { ⌜ f < widthOf p ⌝ }
     ensures { λ r. ⌜ r ≡ partWord (now (deck .entry)) p k f ⌝ }
 {
-    words::word(
-        deck,
-        trailer::part_start(deck, p) as usize + k * trailer::width(p) + f,
-    )
+    words::word(deck, part_place(deck, p, k, f))
 }
 
 // A word of lists.
