@@ -15,6 +15,7 @@ use Rattle.deck.specs.Parts.{partWord}
 use Rattle.deck.specs.Forms.{formShape}
 use Rattle.deck.specs.Records.{deckAnswer, partAnswer, recordAnswer, classShape, classOrder, classAnswer, roleShape, roleOrder, roleAnswer, injectedShape, injectedOrder, injectedAnswer, conceptForm, conceptAnswer, axiomForm, axiomAnswer, factShape, factAnswer}
 use Rattle.deck.specs.Content.{IsAccepted}
+use Rattle.deck.proofs.TrailerLaws.{framed-of}
 use Rattle.deck.proofs.AnswerLaws.{or-left, or-right, first-at, unless-test, unless-rest}
 
 -- a record tested for 5, then 6
@@ -27,13 +28,13 @@ order a b h = unless-test b _ _ (unless-rest a _ _ h)
 module _ (s : List ℕ) (h : IsAccepted s) where
   pub framed : Framed s
   unfolding deckAnswer
-  framed = or-left (trailerAnswer s) (firstRefusal (partAnswer s) 6) h
+  framed = framed-of 1 s (or-left (trailerAnswer 1 s) (firstRefusal (partAnswer s) 6) h)
 
   record-accepted : (p k : ℕ) → p < 6 → k < partCount s p → recordAnswer s p k ≡ Accepted
   unfolding deckAnswer partAnswer
   record-accepted p k lp lk =
       first-at (recordAnswer s p) (partCount s p)
-      (first-at (partAnswer s) 6 (or-right (trailerAnswer s) (firstRefusal (partAnswer s) 6) h) p lp) k lk
+      (first-at (partAnswer s) 6 (or-right (trailerAnswer 1 s) (firstRefusal (partAnswer s) 6) h) p lp) k lk
 
   module _ (k : ℕ) where
     pub class-shape : k < partCount s 0 → classShape s k ≡ true

@@ -1,6 +1,6 @@
 -- What the tests 1 to 4 say of a deck that passes them.
 -- Assumes nothing.
-use mathlib.Core.Path.{_≡_, refl, sym}
+use mathlib.Core.Path.{_≡_, refl, sym, subst}
 use mathlib.Core.Logic.{⊎-elim}
 use mathlib.Core.Bool.{Bool, true, false, _&&_}
 use mathlib.Core.List.{List}
@@ -50,6 +50,14 @@ before-le s p (suc n) l =
     ⊎-elim (λ (e : p ≡ n). rw e (omega arith)) (λ (l′ : p < n). omega (arith, before-le s p n l′))
     (eq-or-lt-of-le (le-of-suc-le-suc l))
 
+-- a reader that gives a deck none of the refusals 1 to 4 is one of the deck's edition
+pub framed-of : (e : ℕ) (s : List ℕ) → trailerAnswer e s ≡ Accepted → Framed s
+unfolding trailerAnswer
+framed-of e s h =
+    let t1 = eqb (length s % 4) 0 && leb 72 (length s) in
+    let own : edition s ≡ e = eqb-true (edition s) e (unless-test (eqb (edition s) e) _ _ (unless-rest t1 _ _ h)) in
+    subst (λ (n : ℕ). trailerAnswer n s ≡ Accepted) (sym own) h
+
 pub record Frame (s : List ℕ) : Type 0 where
   pub long : 72 ≤ length s
   pub counts : countsFit s ≡ true
@@ -60,7 +68,7 @@ unfolding trailerAnswer
 frame s h =
     let t1 = eqb (length s % 4) 0 && leb 72 (length s) in
     let h2 = unless-rest t1 _ _ h in
-    let h3 = unless-rest (eqb (edition s) 1) _ _ h2 in
+    let h3 = unless-rest (eqb (edition s) (edition s)) _ _ h2 in
     let h4 = unless-rest (countsFit s) _ _ h3 in
     record {
       long = leb-true 72 (length s) (and-right (eqb (length s % 4) 0) (leb 72 (length s)) (unless-test t1 _ _ h));

@@ -26,15 +26,15 @@ unfoldable pub firstRefusal : (ℕ → DeckAnswer) → ℕ → DeckAnswer
 firstRefusal f zero = Accepted
 firstRefusal f (suc n) = orElse (firstRefusal f n) (f n)
 
--- "Order: 1 to 4": 1 "bytes not a multiple of 4, or under 72", 2 "edition is not 1", 3, 4
-unfoldable pub trailerAnswer : List ℕ → DeckAnswer
-trailerAnswer s =
+-- "Order: 1 to 4": 1 "bytes not a multiple of 4, or under 72", 2 "edition is not 1", 3, 4, for a reader of edition e
+unfoldable pub trailerAnswer : ℕ → List ℕ → DeckAnswer
+trailerAnswer e s =
     unless (eqb (length s % 4) 0 && leb 72 (length s)) TooShort
-    (unless (eqb (edition s) 1) UnknownEdition
+    (unless (eqb (edition s) e) UnknownEdition
     (unless (countsFit s) CountOverLimit
     (unless (layoutFits s) BadLayout
     Accepted)))
 
--- the deck has passed the tests 1 to 4
+-- the deck has passed the tests 1 to 4 of a reader of its edition
 abbrev pub Framed : List ℕ → Type 0
-Framed s = trailerAnswer s ≡ Accepted
+Framed s = trailerAnswer (edition s) s ≡ Accepted

@@ -137,6 +137,6 @@ recordAnswer s p = getD (recordAnswers s) p (λ k. Accepted)
 unfoldable pub partAnswer : List ℕ → ℕ → DeckAnswer
 partAnswer s p = firstRefusal (recordAnswer s p) (partCount s p)
 
--- "Order: 1 to 4; then records in part order, each tested for 5, 6, 7"
+-- "Order: 1 to 4; then records in part order, each tested for 5, 6, 7"; "edition (1)"
 unfoldable pub deckAnswer : List ℕ → DeckAnswer
-deckAnswer s = orElse (trailerAnswer s) (firstRefusal (partAnswer s) 6)
+deckAnswer s = orElse (trailerAnswer 1 s) (firstRefusal (partAnswer s) 6)

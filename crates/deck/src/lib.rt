@@ -24,9 +24,9 @@ pub enum DeckAnswer {
     Refused(Refusal),
 }
 
-// The tests 1 to 4.
-pub fn check_trailer(deck: &[u8]) -> DeckAnswer
-    ensures { λ r. ⌜ r ≡ trailerAnswer (now (deck .entry)) ⌝ }
+// The tests 1 to 4, for a reader of an edition.
+fn check_trailer(deck: &[u8], edition: u32) -> DeckAnswer
+    ensures { λ r. ⌜ r ≡ trailerAnswer edition (now (deck .entry)) ⌝ }
 {
     if deck.len() % 4 != 0 {
         return DeckAnswer::Refused(Refusal::TooShort);
@@ -34,7 +34,7 @@ pub fn check_trailer(deck: &[u8]) -> DeckAnswer
     if deck.len() < 72 {
         return DeckAnswer::Refused(Refusal::TooShort);
     }
-    if trailer::trailer_word(deck, 0) != 1 {
+    if trailer::trailer_word(deck, 0) != edition {
         return DeckAnswer::Refused(Refusal::UnknownEdition);
     }
     if !trailer::counts_fit(deck) {
@@ -50,7 +50,7 @@ pub fn check_trailer(deck: &[u8]) -> DeckAnswer
 pub fn check_deck(deck: &[u8]) -> DeckAnswer
     ensures { λ r. ⌜ r ≡ deckAnswer (now (deck .entry)) ⌝ }
 {
-    let answer = check_trailer(deck);
+    let answer = check_trailer(deck, 1);
     if let DeckAnswer::Refused(_) = answer {
         return answer;
     }

@@ -27,8 +27,8 @@ whole c = eq-eqb (length (bytes (c .before .before)) % 4) 0 (omega arith)
 long : (c : tie.Else2) → leb 72 (length (bytes (c .before .before .before))) ≡ true
 long c = le-leb 72 (length (bytes (c .before .before .before))) (omega arith)
 
-first-edition : (c : tie.Else3) → eqb (edition (bytes (c .before .before .before .before .before))) 1 ≡ true
-first-edition c = eq-eqb (edition (bytes (c .before .before .before .before .before))) 1 (omega arith)
+right-edition : (c : tie.Else3) → let at = c .before .before .before .before .before in eqb (edition (bytes at)) (at .args .edition) ≡ true
+right-edition c = let at = c .before .before .before .before .before in eq-eqb (edition (bytes at)) (at .args .edition) (omega arith)
 
 counts : (c : tie.Else4) → countsFit (bytes (c .before .before .before .before .before .before .before)) ≡ true
 counts c = sym (c .before .counts-fit .ensures) ∙ not-false _ (c .if4 .left)
@@ -48,8 +48,8 @@ returns-3 : tie.Need-returns-3
 unfolding trailerAnswer
 returns-3 c =
     let at = c .before .before in
-    let s = bytes (at .before .before .before) in
-    simp (whole (at .before), long at, ne-eqb (edition s) 1 (λ e. c .if3 .taken (omega arith)))
+    let start = at .before .before .before in
+    simp (whole (at .before), long at, ne-eqb (edition (bytes start)) (start .args .edition) (λ e. c .if3 .taken (omega arith)))
 
 counts-fit-requires : tie.Need-counts-fit-requires
 counts-fit-requires c κs = search needs
@@ -58,7 +58,7 @@ returns-4 : tie.Need-returns-4
 unfolding trailerAnswer
 returns-4 c =
     let at = c .before .before .before .before in
-    simp (whole (at .before), long at, first-edition (c .before .before), sym (c .before .counts-fit .ensures) ∙ not-true _ (c .if4 .taken))
+    simp (whole (at .before), long at, right-edition (c .before .before), sym (c .before .counts-fit .ensures) ∙ not-true _ (c .if4 .taken))
 
 layout-fits-requires : tie.Need-layout-fits-requires
 layout-fits-requires c κs = search needs
@@ -67,13 +67,13 @@ returns-5 : tie.Need-returns-5
 unfolding trailerAnswer
 returns-5 c =
     let at = c .before .before .before .before .before .before in
-    simp (whole (at .before), long at, first-edition (c .before .before .before .before), counts (c .before .before), sym (c .before .layout-fits .ensures) ∙ not-true _ (c .if5 .taken))
+    simp (whole (at .before), long at, right-edition (c .before .before .before .before), counts (c .before .before), sym (c .before .layout-fits .ensures) ∙ not-true _ (c .if5 .taken))
 
 returns-6 : tie.Need-returns-6
 unfolding trailerAnswer
 returns-6 c =
     let at = c .before .before .before .before .before .before in
-    simp (whole (at .before), long at, first-edition (c .before .before .before .before), counts (c .before .before), sym (c .before .layout-fits .ensures) ∙ not-false _ (c .if5 .left))
+    simp (whole (at .before), long at, right-edition (c .before .before .before .before), counts (c .before .before), sym (c .before .layout-fits .ensures) ∙ not-false _ (c .if5 .left))
 
 pub check-trailer-spec : {M : Type 1} → statement M
 check-trailer-spec =
