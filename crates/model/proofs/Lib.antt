@@ -35,3 +35,4 @@ pub mod PhaseKeeps
 pub mod PhaseLaws
 pub mod RunLaws
 pub mod Lent
+pub mod SatisfiedLaws
