@@ -1,6 +1,6 @@
 #!/bin/sh
-# What the gate does not run: the library from C, C++ and Rust, the test data against their makers, and the comparison with
-# the original. Exit status 0: nothing failed.
+# What the gate does not run: the library from C, C++ and Rust, the program's input and output in pieces, the test data against
+# their makers, and the comparison with the original. Exit status 0: nothing failed.
 #
 #     STYLE_DECK_RUST=<folder of the original files> sh tests/all.sh
 cd "$(dirname "$0")/.." || exit 1
@@ -57,6 +57,8 @@ for maker in decks judgements runs reports; do
     try "test data of make_$maker.py" python3 tests/make_$maker.py --check
 done
 try "the Rust wrapper's tests" wrapper
+try "the program" rt check verify
+try "its input and output, whole and in pieces" python3 tests/streams.py
 if [ -n "$STYLE_DECK_RUST" ]; then
     try "20,000 decks compared with the original" compared
 else
