@@ -17,7 +17,7 @@ use Rattle.deck.specs.Below.{allBelow}
 use Rattle.deck.specs.Trailer.{partCount}
 use Rattle.deck.specs.Parts.{partWord, listWord}
 use Rattle.deck.specs.Rows.{rowFits, rowShape, rowRises, wordBelow, wordRises}
-use Rattle.deck.specs.Forms.{Counts, boundOf, countsOf, fits, formShape}
+use Rattle.deck.specs.Forms.{Counts, boundOf, countsOf, fits, wordsFit, formShape}
 use Rattle.deck.specs.Content.{listAt, deckOf}
 use Rattle.deck.specs.Sound.{EachBelow, Rises, countsIn}
 use Rattle.deck.specs.Reads.{ListFits, FormFits}
@@ -76,59 +76,38 @@ module _ (s : List ℕ) (c d : ℕ) (l : c ≤ d) where
   bound-more Concept = l
   bound-more Any = omega arith
 
-  fits-more : (kind : Kind) (w : ℕ) → fits s c kind w ≡ true → fits s d kind w ≡ true
+  fits-more : (kind : Kind) (w : ℕ) → fits (countsOf s) c kind w ≡ true → fits (countsOf s) d kind w ≡ true
   fits-more kind w h = lt-ltb w (boundOf (countsOf s) d kind) (omega (arith, ltb-true w (boundOf (countsOf s) c kind) h, bound-more kind))
 
   both : (a b a′ b′ : Bool) → (a ≡ true → a′ ≡ true) → (b ≡ true → b′ ≡ true) → a && b ≡ true → a′ && b′ ≡ true
   both a b a′ b′ f g h = rw (f (and-left a b h)) (g (and-right a b h))
 
-  pub form-more : (p k f : ℕ) (form : Form) → formShape s p k f c form ≡ true → formShape s p k f d form ≡ true
-  form-more p k f (Fields x y z) h =
-      both (fits s c x (partWord s p k f)) _ _ _ (fits-more x (partWord s p k f))
-      (both (fits s c y (partWord s p k (f + 1))) (fits s c z (partWord s p k (f + 2))) _ _ (fits-more y (partWord s p k (f + 1))) (fits-more z (partWord s p k (f + 2)))) h
-  form-more p k f (ListField e x) h =
-      both (rowShape s (partWord s p k f) (partWord s p k (f + 1)) (boundOf (countsOf s) c e)) (fits s c x (partWord s p k (f + 2))) _ _
-      (row-more s (partWord s p k f) (partWord s p k (f + 1)) _ _ (bound-more e)) (fits-more x (partWord s p k (f + 2))) h
-  form-more p k f (FieldList x e) h =
-      both (fits s c x (partWord s p k f)) (rowShape s (partWord s p k (f + 1)) (partWord s p k (f + 2)) (boundOf (countsOf s) c e)) _ _
-      (fits-more x (partWord s p k f)) (row-more s (partWord s p k (f + 1)) (partWord s p k (f + 2)) _ _ (bound-more e)) h
-  form-more p k f Unknown h = h
+  pub form-more : (form : Form) (x y z : ℕ) → wordsFit s (countsOf s) c form x y z ≡ true → wordsFit s (countsOf s) d form x y z ≡ true
+  form-more (Fields a b e) x y z h =
+      both (fits (countsOf s) c a x) _ _ _ (fits-more a x) (both (fits (countsOf s) c b y) (fits (countsOf s) c e z) _ _ (fits-more b y) (fits-more e z)) h
+  form-more (ListField e a) x y z h =
+      both (fits (countsOf s) c a z) (rowShape s x y (boundOf (countsOf s) c e)) _ _ (fits-more a z) (row-more s x y _ _ (bound-more e)) h
+  form-more (FieldList a e) x y z h =
+      both (fits (countsOf s) c a x) (rowShape s y z (boundOf (countsOf s) c e)) _ _ (fits-more a x) (row-more s y z _ _ (bound-more e)) h
+  form-more Unknown x y z h = h
 
--- three words, tested against a form by counts n; of the fields of a record it is the record's test
-abbrev pub formTest : List ℕ → Counts → ℕ → Form → ℕ → ℕ → ℕ → Bool
-formTest s n c (Fields a b e) x y z = ltb x (boundOf n c a) && (ltb y (boundOf n c b) && ltb z (boundOf n c e))
-formTest s n c (ListField e a) x y z = rowShape s x y (boundOf n c e) && ltb z (boundOf n c a)
-formTest s n c (FieldList a e) x y z = ltb x (boundOf n c a) && rowShape s y z (boundOf n c e)
-formTest s n c Unknown x y z = false
-
-test-shape : (s : List ℕ) (c p k f : ℕ) (form : Form) → formTest s (countsOf s) c form (partWord s p k f) (partWord s p k (f + 1)) (partWord s p k (f + 2)) ≡ formShape s p k f c form
-test-shape s c p k f (Fields a b e) = refl
-test-shape s c p k f (ListField e a) = refl
-test-shape s c p k f (FieldList a e) = refl
-test-shape s c p k f Unknown = refl
-
+-- the test of words and counts that are those of a record
 pub tested : (s : List ℕ) (n : Counts) (c p k f : ℕ) (form F : Form) (x y z : ℕ) (r : Bool) → n ≡ countsOf s → form ≡ F
-    → x ≡ partWord s p k f → y ≡ partWord s p k (f + 1) → z ≡ partWord s p k (f + 2) → r ≡ formTest s n c F x y z → r ≡ formShape s p k f c form
-tested s n c p k f form F x y z r en ef ex ey ez h = h ∙ rw (en, ← ef, ex, ey, ez) (test-shape s c p k f form)
+    → x ≡ partWord s p k f → y ≡ partWord s p k (f + 1) → z ≡ partWord s p k (f + 2) → r ≡ wordsFit s n c F x y z → r ≡ formShape s p k f c form
+tested s n c p k f form F x y z r en ef ex ey ez h = h ∙ rw (en, ← ef, ex, ey, ez)
 
 module _ (s : List ℕ) (c : ℕ) where
-  field-fits : (kind : Kind) (w : ℕ) → fits s c kind w ≡ true → w < boundOf (countsIn (deckOf s)) c kind
+  field-fits : (kind : Kind) (w : ℕ) → fits (countsOf s) c kind w ≡ true → w < boundOf (countsIn (deckOf s)) c kind
   field-fits kind w h = rw (counts-are s) (ltb-true w (boundOf (countsOf s) c kind) h)
 
   words-fit : (kind : Kind) (start count : ℕ) → rowShape s start count (boundOf (countsOf s) c kind) ≡ true
       → ListFits s (boundOf (countsIn (deckOf s)) c kind) (record { start = start; count = count })
   words-fit kind start count h = rw (counts-are s) (list-fits s start count (boundOf (countsOf s) c kind) h)
 
-  pub form-fits : (p k f : ℕ) (form : Form) → formShape s p k f c form ≡ true
-      → FormFits s c form (partWord s p k f) (partWord s p k (f + 1)) (partWord s p k (f + 2))
-  form-fits p k f (Fields x y z) h =
-      let r = and-right (fits s c x (partWord s p k f)) _ h in (
-        field-fits x _ (and-left (fits s c x (partWord s p k f)) _ h),
-        (field-fits y _ (and-left (fits s c y (partWord s p k (f + 1))) _ r), field-fits z _ (and-right (fits s c y (partWord s p k (f + 1))) _ r)),
-      )
-  form-fits p k f (ListField e x) h =
-      let t = rowShape s (partWord s p k f) (partWord s p k (f + 1)) (boundOf (countsOf s) c e) in
-      (words-fit e _ _ (and-left t _ h), field-fits x _ (and-right t _ h))
-  form-fits p k f (FieldList x e) h =
-      (field-fits x _ (and-left (fits s c x (partWord s p k f)) _ h), words-fit e _ _ (and-right (fits s c x (partWord s p k f)) _ h))
-  form-fits p k f Unknown h = let z : _≡_ {A = ℕ} 0 1 = cc in absurd (omega arith)
+  pub form-fits : (form : Form) (x y z : ℕ) → wordsFit s (countsOf s) c form x y z ≡ true → FormFits s c form x y z
+  form-fits (Fields a b e) x y z h =
+      let r = and-right (fits (countsOf s) c a x) _ h in
+      (field-fits a x (and-left (fits (countsOf s) c a x) _ h), (field-fits b y (and-left (fits (countsOf s) c b y) _ r), field-fits e z (and-right (fits (countsOf s) c b y) _ r)))
+  form-fits (ListField e a) x y z h = (words-fit e x y (and-right (fits (countsOf s) c a z) _ h), field-fits a z (and-left (fits (countsOf s) c a z) _ h))
+  form-fits (FieldList a e) x y z h = (field-fits a x (and-left (fits (countsOf s) c a x) _ h), words-fit e y z (and-right (fits (countsOf s) c a x) _ h))
+  form-fits Unknown x y z h = let z : _≡_ {A = ℕ} 0 1 = cc in absurd (omega arith)

@@ -99,7 +99,7 @@ module _ (s : List ℕ) (h : IsAccepted s) (k : ℕ) where
 
   -- ---- concepts, axioms, facts
   concept-form : k < conceptCount (deckOf s) → FormFits s k (conceptForm (partWord s 3 k 0)) (partWord s 3 k 1) (partWord s 3 k 2) (partWord s 3 k 3)
-  concept-form l = form-fits s k 3 k 1 (conceptForm (partWord s 3 k 0)) (AcceptedLaws.concept-shape s h k (concept-place l))
+  concept-form l = form-fits s k (conceptForm (partWord s 3 k 0)) _ _ _ (AcceptedLaws.concept-shape s h k (concept-place l))
 
   pub concept-known : k < conceptCount (deckOf s) → partWord s 3 k 0 < 12
   concept-known l = TagLaws.known-concept s k (partWord s 3 k 0) (partWord s 3 k 1) (partWord s 3 k 2) (partWord s 3 k 3) (concept-form l)
@@ -118,7 +118,7 @@ module _ (s : List ℕ) (h : IsAccepted s) (k : ℕ) where
   unfolding axiomIn
   axiom-read l =
       let m = axiom-place l in
-      let f = form-fits s (partCount s 3) 4 k 1 (axiomForm (partWord s 4 k 0)) (AcceptedLaws.axiom-shape s h k m) in
+      let f = form-fits s (partCount s 3) (axiomForm (partWord s 4 k 0)) _ _ _ (AcceptedLaws.axiom-shape s h k m) in
       record {
         is = rw (DeckLaws.axiom-at s k m);
         known = TagLaws.known-axiom s (partCount s 3) (partWord s 4 k 0) (partWord s 4 k 1) (partWord s 4 k 2) (partWord s 4 k 3) f;

@@ -40,7 +40,7 @@ module _ (s : List ℕ) (h : IsAccepted s) where
       let count = partWord s 0 k 2 in
       let order = AcceptedLaws.class-order s h k l in
       record {
-        below = form-fits s 0 0 k 0 (FieldList Flag Class) (AcceptedLaws.class-shape s h k l) .1 .below;
+        below = form-fits s 0 (FieldList Flag Class) (partWord s 0 k 0) start count (AcceptedLaws.class-shape s h k l) .1 .below;
         rises = list-rises s start count (and-left (rowRises s start count) _ order);
         own = λ e. list-has s start count k ∙ or-else (eqb (partWord s 0 k 0) 1) (rowHas s start count k) (and-right (rowRises s start count) _ order) e;
       }
@@ -64,7 +64,7 @@ module _ (s : List ℕ) (h : IsAccepted s) where
   pub injected-fits : (k : ℕ) → k < partCount s 2 → InjectedFits (countsIn (deckOf s)) (injectedIn s k)
   unfolding injectedIn
   injected-fits k l =
-      let f = form-fits s 0 2 k 0 (Fields Class Role RealClass) (AcceptedLaws.injected-shape s h k l) in
+      let f = form-fits s 0 (Fields Class Role RealClass) (partWord s 2 k 0) (partWord s 2 k 1) (partWord s 2 k 2) (AcceptedLaws.injected-shape s h k l) in
       record { class = f .0; role = f .1 .0; filler = f .1 .1 }
 
   pub injected-rises : (k : ℕ) → k + 1 < partCount s 2 → Before (injectedIn s k) (injectedIn s (k + 1))
@@ -86,18 +86,18 @@ module _ (s : List ℕ) (h : IsAccepted s) where
   unfolding conceptIn
   concept-at-fits k l =
       concept-fits s k (partWord s 3 k 0) (partWord s 3 k 1) (partWord s 3 k 2) (partWord s 3 k 3)
-      (form-fits s k 3 k 1 (conceptForm (partWord s 3 k 0)) (AcceptedLaws.concept-shape s h k l))
+      (form-fits s k (conceptForm (partWord s 3 k 0)) _ _ _ (AcceptedLaws.concept-shape s h k l))
 
   pub axiom-at-fits : (k : ℕ) → k < partCount s 4 → AxiomFits (countsIn (deckOf s)) (partCount s 3) (axiomIn s k)
   unfolding axiomIn
   axiom-at-fits k l =
       axiom-fits s (partCount s 3) (partWord s 4 k 0) (partWord s 4 k 1) (partWord s 4 k 2) (partWord s 4 k 3)
-      (form-fits s (partCount s 3) 4 k 1 (axiomForm (partWord s 4 k 0)) (AcceptedLaws.axiom-shape s h k l))
+      (form-fits s (partCount s 3) (axiomForm (partWord s 4 k 0)) _ _ _ (AcceptedLaws.axiom-shape s h k l))
 
   pub fact-fits : (k : ℕ) → k < partCount s 5 → FactFits (countsIn (deckOf s)) (factIn s k)
   unfolding factIn
   fact-fits k l =
-      let f = form-fits s 0 5 k 0 (Fields Class Role Class) (AcceptedLaws.fact-shape s h k l) in
+      let f = form-fits s 0 (Fields Class Role Class) (partWord s 5 k 0) (partWord s 5 k 1) (partWord s 5 k 2) (AcceptedLaws.fact-shape s h k l) in
       record { from = f .0; role = f .1 .0; to = f .1 .1 }
 
   pub sound : Sound (deckOf s)

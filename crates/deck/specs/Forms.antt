@@ -31,15 +31,16 @@ boundOf n c RoleWord = 2 * n .roles
 boundOf n c Concept = c
 boundOf n c Any = 4294967296
 
-abbrev pub fits : List ℕ → ℕ → Kind → ℕ → Bool
-fits s c kind w = ltb w (boundOf (countsOf s) c kind)
+abbrev pub fits : Counts → ℕ → Kind → ℕ → Bool
+fits n c kind w = ltb w (boundOf n c kind)
+
+-- three words are of the form, by counts n; a list's words are tested last
+abbrev pub wordsFit : List ℕ → Counts → ℕ → Form → ℕ → ℕ → ℕ → Bool
+wordsFit s n c (Fields a b e) x y z = fits n c a x && (fits n c b y && fits n c e z)
+wordsFit s n c (ListField e a) x y z = fits n c a z && rowShape s x y (boundOf n c e)
+wordsFit s n c (FieldList a e) x y z = fits n c a x && rowShape s y z (boundOf n c e)
+wordsFit s n c Unknown x y z = false
 
 -- the three fields from field f of record k of part p are of the form
 abbrev pub formShape : List ℕ → ℕ → ℕ → ℕ → ℕ → Form → Bool
-formShape s p k f c (Fields x y z) =
-    fits s c x (partWord s p k f) && (fits s c y (partWord s p k (f + 1)) && fits s c z (partWord s p k (f + 2)))
-formShape s p k f c (ListField e x) =
-    rowShape s (partWord s p k f) (partWord s p k (f + 1)) (boundOf (countsOf s) c e) && fits s c x (partWord s p k (f + 2))
-formShape s p k f c (FieldList x e) =
-    fits s c x (partWord s p k f) && rowShape s (partWord s p k (f + 1)) (partWord s p k (f + 2)) (boundOf (countsOf s) c e)
-formShape s p k f c Unknown = false
+formShape s p k f c form = wordsFit s (countsOf s) c form (partWord s p k f) (partWord s p k (f + 1)) (partWord s p k (f + 2))

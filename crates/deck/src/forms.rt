@@ -27,7 +27,7 @@ pub fn fields_fit(x: u32, y: u32, z: u32, a: usize, b: usize, c: usize) -> bool
 // Whether a list's words, and the field after the list, are below their bounds.
 pub fn list_field_fits(deck: &[u8], start: u32, count: u32, z: u32, e: usize, c: usize) -> bool
     requires { ⌜ Framed (now deck) ⌝ }
-    ensures { λ r. ⌜ r ≡ rowShape (now (deck .entry)) start count e && ltb z c ⌝ }
+    ensures { λ r. ⌜ r ≡ ltb z c && rowShape (now (deck .entry)) start count e ⌝ }
 {
     if c <= z as usize {
         return false;

@@ -10,9 +10,9 @@ use Rattle.deck.specs.Kind.{Form}
 use Rattle.deck.specs.Kind.{Unknown}
 use Rattle.deck.specs.Trailer.{partCount, realOf}
 use Rattle.deck.specs.Parts.{partWord}
-use Rattle.deck.specs.Forms.{Counts, formShape}
+use Rattle.deck.specs.Forms.{Counts, wordsFit, formShape}
 use Rattle.deck.specs.Records.{axiomForm, axiomForms}
-use Rattle.deck.proofs.FormLaws.{formTest, tested}
+use Rattle.deck.proofs.FormLaws.{tested}
 use Rattle.deck.proofs.MatchLaws.{at-least}
 use Rattle.deck.proofs.TrailerLaws.{count-within}
 use Rattle.deck.proofs.records.axiom_shape.Statement.{statement}
@@ -140,7 +140,7 @@ counts c = record { classes = partCount (bytes c) 0; real = realOf (bytes c); ro
 -- an arm: the form of its tag, and the test of the three fields
 arm : (c : tie.After-part-word4) (F : Form) (r : Bool) → let a = c .before .before .before .before .before .before .args in
     axiomForm (c .part-word4 .result) ≡ F
-    → r ≡ formTest (bytes c) (counts c) (a .concepts) F (c .before .before .before .part-word .result) (c .before .before .part-word2 .result) (c .before .part-word3 .result)
+    → r ≡ wordsFit (bytes c) (counts c) (a .concepts) F (c .before .before .before .part-word .result) (c .before .before .part-word2 .result) (c .before .part-word3 .result)
     → r ≡ formShape (bytes c) 4 (a .k) 1 (a .concepts) (axiomForm (partWord (bytes c) 4 (a .k) 0))
 arm c F r e h =
     let p1 = c .before .before .before in

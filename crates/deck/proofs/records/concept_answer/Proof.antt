@@ -24,7 +24,7 @@ returns c =
     let at = c .before .before .before in
     let below = sym (c .before .concept-shape .ensures) ∙ c .if1 .taken in
     let s = now (at .args .deck) in
-    simp (form-more s (at .args .k) (partCount s 3) (omega (arith, at .pre .1)) 3 (at .args .k) 1 (conceptForm (partWord s 3 (at .args .k) 0)) below, below)
+    simp (form-more s (at .args .k) (partCount s 3) (omega (arith, at .pre .1)) (conceptForm (partWord s 3 (at .args .k) 0)) (partWord s 3 (at .args .k) 1) (partWord s 3 (at .args .k) 2) (partWord s 3 (at .args .k) 3) below, below)
 
 count-requires : tie.Need-count-requires
 count-requires c κs = search needs
