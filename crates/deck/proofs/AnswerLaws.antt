@@ -5,6 +5,7 @@ use mathlib.Core.Logic.{⊎-elim}
 use mathlib.Core.Bool.{Bool, true, false}
 use Prim.Native.Nat.{ℕ, zero, suc, _+_, _<_}
 use native.Mathlib.Numerals.{add-one}
+use native.Mathlib.Omega.{arith}
 use native.Mathlib.Nat.{eq-or-lt-of-le, le-of-suc-le-suc, not-suc-le-zero}
 use Rattle.deck.specs.declared.refusal.Refusal.{Refusal}
 use Rattle.deck.specs.declared.DeckAnswer.{DeckAnswer}
@@ -53,3 +54,9 @@ module _ (f : ℕ → DeckAnswer) where
   first-at (suc n) h i l =
       ⊎-elim (λ (e : i ≡ n). rw e (or-right (firstRefusal f n) (f n) h)) (λ (l′ : i < n). first-at n (or-left (firstRefusal f n) (f n) h) i l′)
       (eq-or-lt-of-le (le-of-suc-le-suc l))
+
+  -- a part is accepted if each of its records is
+  pub first-all : (n : ℕ) → ((i : ℕ) → i < n → f i ≡ Accepted) → firstRefusal f n ≡ Accepted
+  unfolding firstRefusal
+  first-all zero h = refl
+  first-all (suc n) h = rw (first-all n (λ i l. h i (omega arith))) (h n (omega arith))

@@ -5,7 +5,7 @@ use mathlib.Core.Bool.{Bool, true, false, _&&_}
 use mathlib.Core.List.{List}
 use Prim.Native.Nat.{ℕ, _+_, _-_, _<_, _≤_}
 use native.Mathlib.Omega.{arith}
-use borrow.Author.Tests.{ltb-true, leb-true, lt-ltb}
+use borrow.Author.Tests.{ltb-true, leb-true, lt-ltb, le-leb}
 use lib.Dec.{ltb}
 use lib.ListN.{length}
 use Rattle.deck.specs.declared.rows.Span.{Span}
@@ -37,6 +37,12 @@ module _ (s : List ℕ) (start count : ℕ) where
 
   pub list-fits : (n : ℕ) → rowShape s start count n ≡ true → ListFits s n (record { start = start; count = count })
   list-fits n h = record { within = row-within n h; below = row-below n h }
+
+  pub fits-list : (n : ℕ) → ListFits s n (record { start = start; count = count }) → rowShape s start count n ≡ true
+  fits-list n h =
+      rw (le-leb (start + count) (partCount s 6) (h .within))
+      (all-of (wordBelow s start n) count
+      (λ i l. lt-ltb (listWord s (start + i)) n (rw (list-at s start count i l) at (h .below i (omega (arith, list-length s start count))))))
 
   -- a row that rises, as a function of the place
   pub row-rising : rowRises s start count ≡ true → Rising (λ i. listWord s (start + i)) count
@@ -111,3 +117,17 @@ module _ (s : List ℕ) (c : ℕ) where
   form-fits (ListField e a) x y z h = (words-fit e x y (and-right (fits (countsOf s) c a z) _ h), field-fits a z (and-left (fits (countsOf s) c a z) _ h))
   form-fits (FieldList a e) x y z h = (field-fits a x (and-left (fits (countsOf s) c a x) _ h), words-fit e y z (and-right (fits (countsOf s) c a x) _ h))
   form-fits Unknown x y z h = let z : _≡_ {A = ℕ} 0 1 = cc in absurd (omega arith)
+
+  -- and the other way: what is in range passes the test
+  fits-field : (kind : Kind) (w : ℕ) → w < boundOf (countsIn (deckOf s)) c kind → fits (countsOf s) c kind w ≡ true
+  fits-field kind w h = lt-ltb w (boundOf (countsOf s) c kind) (rw (counts-are s) at h)
+
+  fits-words : (kind : Kind) (start count : ℕ) → ListFits s (boundOf (countsIn (deckOf s)) c kind) (record { start = start; count = count })
+      → rowShape s start count (boundOf (countsOf s) c kind) ≡ true
+  fits-words kind start count h = fits-list s start count (boundOf (countsOf s) c kind) (rw (counts-are s) at h)
+
+  pub fits-form : (form : Form) (x y z : ℕ) → FormFits s c form x y z → wordsFit s (countsOf s) c form x y z ≡ true
+  fits-form (Fields a b e) x y z h = rw (fits-field a x (h .0), fits-field b y (h .1 .0)) (fits-field e z (h .1 .1))
+  fits-form (ListField e a) x y z h = rw (fits-field a z (h .1)) (fits-words e x y (h .0))
+  fits-form (FieldList a e) x y z h = rw (fits-field a x (h .0)) (fits-words e y z (h .1))
+  fits-form Unknown x y z h = absurd h

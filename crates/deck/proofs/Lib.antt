@@ -15,3 +15,4 @@ pub mod SearchLaws
 pub mod SameLaws
 pub mod ReadLaws
 pub mod InjectedLaws
+pub mod FittingLaws
