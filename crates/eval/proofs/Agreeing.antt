@@ -22,14 +22,14 @@ use Rattle.eval.specs.declared.verdict.Witnesses.{Witnesses}
 use Rattle.eval.specs.declared.verdict.Verdict.the-variants.{Holds, UnhandledAxiom}
 use Rattle.eval.specs.Standing.{fresh, andNext, someNext}
 use Rattle.eval.specs.Lists.{range, keep, every, any}
-use Rattle.eval.specs.Structure.{Structure, elements, hasEdge, hasPair, successorsOf, successors, pair, pairs, Pair, inverse, anyInverse}
+use Rattle.eval.specs.Structure.{Structure, elements, hasEdge, hasPair, successorsOf, successors, pair, pairsBy, pairsOf, pairs, Pair, inverse, anyInverse}
 use Rattle.eval.specs.Judge.{judge, judgeOf, truth, someFrom}
-use Rattle.eval.specs.Verdict.{verdict, scan, implies, allAgree, atMostOne, within, onward, composed, across, equivalent, inTurn, one, two, three}
+use Rattle.eval.specs.Verdict.{verdict, scan, implies, allAgree, atMostOne, atPairs, within, onward, composed, across, equivalent, inTurn, one, two, three}
 use Rattle.eval.specs.Truth.{Choice, ext, extOf, AtOne, AtTwo, AtThree, AtChain, Apart, In, Out, inOne, Break, True, FalseAt}
 use Rattle.eval.proofs.Falling.{falling}
 use Rattle.eval.proofs.ListLaws.{map-same, in-keep}
 use Rattle.eval.proofs.Steps.{fits, each-below, and-same, judge-at, ext-at}
-use Rattle.eval.proofs.EdgeLaws.{in-elements, in-successors, in-pairs, Edge}
+use Rattle.eval.proofs.EdgeLaws.{in-elements, in-successors, in-pairs, in-word-pairs, PairAt}
 
 pub record Agree (D : Deck) (S T : Structure) : Type 0 where
   pub size : S .size ≡ T .size
@@ -89,11 +89,14 @@ module _ (D : Deck) (W : Sound D) (S T : Structure) (Q : Agree D S T) where
   unfolding successors
   successors-agree r = word-successors-agree (Role.Named r)
 
+  by-agree : (f g : ℕ → List ℕ) → ((x : ℕ) → x < S .size → f x ≡ g x) → pairsBy S f ≡ pairsBy T g
+  by-agree f g h =
+      flat-same (λ x. map (pair x) (f x)) (λ x. map (pair x) (g x)) (elements S) (λ x m. ap (map (pair x)) (h x (in-elements S x m)))
+      ∙ ap (λ (n : ℕ). flatMap (λ x. map (pair x) (g x)) (range 0 n)) (Q .size)
+
   pairs-agree : (r : ℕ) → pairs D S r ≡ pairs D T r
   unfolding pairs
-  pairs-agree r =
-      flat-same (λ x. map (pair x) (successors D S r x)) (λ x. map (pair x) (successors D T r x)) (elements S) (λ x m. ap (map (pair x)) (successors-agree r x (in-elements S x m)))
-      ∙ ap (λ (n : ℕ). flatMap (λ x. map (pair x) (successors D T r x)) (range 0 n)) (Q .size)
+  pairs-agree r = by-agree (successors D S r) (successors D T r) (successors-agree r)
 
   -- ---- concepts
   judge-of : (c : ℕ) (k : Concept) → ConceptFits (countsIn D) c k → ((o : ℕ) → o < c → (e : ℕ) → e < S .size → judge D S o e ≡ judge D T o e) → (e : ℕ) → e < S .size
@@ -123,12 +126,14 @@ module _ (D : Deck) (W : Sound D) (S T : Structure) (Q : Agree D S T) where
   at-elements : (f g : ℕ → Judgement) → ((e : ℕ) → e < S .size → f e ≡ g e) → scan f one fresh (elements S) ≡ scan g one fresh (elements T)
   at-elements f g h = scan-same f g one fresh (elements S) (λ e m. h e (in-elements S e m)) ∙ ap (λ (n : ℕ). scan g one fresh (range 0 n)) (Q .size)
 
-  at-pairs : (r : ℕ) (f g : Pair → Judgement) (w : Pair → Witnesses) → ((x y : ℕ) → Edge D S r x y → f (pair x y) ≡ g (pair x y)) → scan f w fresh (pairs D S r) ≡ scan g w fresh (pairs D T r)
-  at-pairs r f g w h = scan-same f g w fresh (pairs D S r) (λ p m. h (p .from) (p .to) (in-pairs D S r p m)) ∙ ap (scan g w fresh) (pairs-agree r)
+  at-pairs : (r : Role) (f g : Pair → Judgement) (w : Pair → Witnesses) → ((x y : ℕ) → PairAt D S r x y → f (pair x y) ≡ g (pair x y)) → atPairs D S r f w ≡ atPairs D T r g w
+  at-pairs r f g w h =
+      scan-same f g w fresh (pairsOf D S r) (λ p m. h (p .from) (p .to) (in-word-pairs D S r p m))
+      ∙ ap (scan g w fresh) (by-agree (successorsOf D S r) (successorsOf D T r) (word-successors-agree r))
 
-  within-agree : (sub sup : ℕ) → within D S sub sup ≡ within D T sub sup
+  within-agree : (sub sup : Role) → within D S sub sup ≡ within D T sub sup
   unfolding within
-  within-agree sub sup = at-pairs sub (λ p. truth (hasEdge D S sup (p .from) (p .to))) (λ p. truth (hasEdge D T sup (p .from) (p .to))) (λ p. two (p .from) (p .to)) (λ x y e. ap truth (edge-agree sup x y (e .from-in) (e .to-in)))
+  within-agree sub sup = at-pairs sub (λ p. truth (hasPair D S sup (p .from) (p .to))) (λ p. truth (hasPair D T sup (p .from) (p .to))) (λ p. two (p .from) (p .to)) (λ x y e. ap truth (pair-agree sup x y (e .from-in) (e .to-in)))
 
   onward-agree : (b sup x y : ℕ) → x < S .size → y < S .size → onward D S b sup x y ≡ onward D T b sup x y
   unfolding onward
@@ -149,7 +154,7 @@ module _ (D : Deck) (W : Sound D) (S T : Structure) (Q : Agree D S T) where
   equivalent-agree l =
       ap inTurn
       (map-same (λ a. inTurn (map (across D S a) l)) (λ a. inTurn (map (across D T a) l)) l
-      (λ a m. ap inTurn (map-same (across D S a) (across D T a) l (λ b n. ap (cond (eqb (roleId a) (roleId b)) Holds) (within-agree (roleId a) (roleId b))))))
+      (λ a m. ap inTurn (map-same (across D S a) (across D T a) l (λ b n. ap (cond (eqb (roleId a) (roleId b)) Holds) (within-agree a b)))))
 
   chain-agree : (l : List Role) (sup : Role) → verdict D S (Axiom.SubObjectPropertyChain l sup) ≡ verdict D T (Axiom.SubObjectPropertyChain l sup)
   unfolding verdict
@@ -167,15 +172,15 @@ module _ (D : Deck) (W : Sound D) (S T : Structure) (Q : Agree D S T) where
   verdict-agree (Axiom.DisjointClasses l) =
       at-elements (λ e. atMostOne (map (λ c. judge D S c e) l)) (λ e. atMostOne (map (λ c. judge D T c e) l)) (λ e h. ap atMostOne (map-same (λ c. judge D S c e) (λ c. judge D T c e) l (λ c m. judge-agree c e h)))
   verdict-agree (Axiom.DisjointUnion k l) = refl
-  verdict-agree (Axiom.SubObjectPropertyOf sub sup) = ap (cond (anyInverse (sub ∷ sup ∷ [])) (UnhandledAxiom 4 1)) (within-agree (roleId sub) (roleId sup))
+  verdict-agree (Axiom.SubObjectPropertyOf sub sup) = ap (cond (anyInverse (sub ∷ sup ∷ [])) (UnhandledAxiom 4 1)) (within-agree sub sup)
   verdict-agree (Axiom.SubObjectPropertyChain l sup) = chain-agree l sup
   verdict-agree (Axiom.EquivalentObjectProperties l) = ap (cond (anyInverse l) (UnhandledAxiom 6 1)) (equivalent-agree l)
   verdict-agree (Axiom.DisjointObjectProperties l) = refl
   verdict-agree (Axiom.InverseObjectProperties p q) = rw (pairs-agree (roleId p), pairs-agree (roleId q))
   verdict-agree (Axiom.ObjectPropertyDomain r c) =
-      ap (cond (anyInverse (r ∷ [])) (UnhandledAxiom 9 1)) (at-pairs (roleId r) (λ p. judge D S c (p .from)) (λ p. judge D T c (p .from)) (λ p. one (p .from)) (λ x y e. judge-agree c x (e .from-in)))
+      ap (cond (anyInverse (r ∷ [])) (UnhandledAxiom 9 1)) (at-pairs r (λ p. judge D S c (p .from)) (λ p. judge D T c (p .from)) (λ p. one (p .from)) (λ x y e. judge-agree c x (e .from-in)))
   verdict-agree (Axiom.ObjectPropertyRange r c) =
-      ap (cond (anyInverse (r ∷ [])) (UnhandledAxiom 10 1)) (at-pairs (roleId r) (λ p. judge D S c (p .to)) (λ p. judge D T c (p .to)) (λ p. one (p .to)) (λ x y e. judge-agree c y (e .to-in)))
+      ap (cond (anyInverse (r ∷ [])) (UnhandledAxiom 10 1)) (at-pairs r (λ p. judge D S c (p .to)) (λ p. judge D T c (p .to)) (λ p. one (p .to)) (λ x y e. judge-agree c y (e .to-in)))
   verdict-agree (Axiom.TransitiveRole r) = ap (cond (anyInverse (r ∷ [])) (UnhandledAxiom 11 1)) (composed-agree (roleId r) (roleId r) (roleId r))
   verdict-agree (Axiom.SymmetricRole r) = rw (pairs-agree (roleId r))
   verdict-agree (Axiom.AsymmetricRole r) = refl

@@ -12,7 +12,7 @@ use Rattle.eval.specs.declared.judgement.Judgement.the-variants.{False, 
 use Rattle.eval.specs.declared.verdict.Witnesses.{Witnesses}
 use Rattle.eval.specs.declared.verdict.Verdict.{Verdict}
 use Rattle.eval.specs.declared.verdict.Verdict.the-variants.{Holds, Fails, UnhandledConcept, GuardedRoleHasEdges}
-use Rattle.eval.specs.Structure.{Structure, elements, hasEdge, successors, Pair, pair, pairs, hasPair, inverse}
+use Rattle.eval.specs.Structure.{Structure, elements, hasEdge, hasPair, successorsOf, successors, Pair, pair, pairsBy, pairsOf, pairs, inverse}
 use Rattle.eval.specs.Judge.{truth}
 use Rattle.eval.specs.Verdict.{atPairs, within, onward, composed, across, equivalent, guardedBy, guarded, two, three, inTurn}
 use Rattle.eval.proofs.ListLaws.{range-in, in-range, keep-in, in-keep, map-in, in-map, flat-in, in-flat}
@@ -36,6 +36,17 @@ element-in S x h = range-in 0 (S .size) x (omega arith) (omega arith)
 pub in-elements : (S : Structure) (x : ℕ) → Member x (elements S) → x < S .size
 in-elements S x m = omega (arith, in-range 0 (S .size) x m .1)
 
+-- pairs by from then to, where the successors of each element are given
+module _ (S : Structure) (next : ℕ → List ℕ) where
+  pub by-in : (x y : ℕ) → x < S .size → Member y (next x) → Member (pair x y) (pairsBy S next)
+  by-in x y h m = flat-in (λ z. map (pair z) (next z)) (elements S) (element-in S x h) (map-in (pair x) m)
+
+  pub in-by : (p : Pair) → Member p (pairsBy S next) → (p .from < S .size) × Member (p .to) (next (p .from))
+  in-by p m =
+      let a = in-flat (λ z. map (pair z) (next z)) p (elements S) m in
+      let b = in-map (pair (a .0)) p (next (a .0)) (a .2) in
+      rw (b .2) (in-elements S (a .0) (a .1), b .1)
+
 module _ (D : Deck) (S : Structure) where
   -- a role word that is not inverse has its role's edges
   pub named-pair : (r : Role) (x y : ℕ) → inverse r ≡ false → hasPair D S r x y ≡ hasEdge D S (roleId r) x y
@@ -58,34 +69,48 @@ module _ (D : Deck) (S : Structure) where
 
   pub pair-in : (r x y : ℕ) → Edge r x y → Member (pair x y) (pairs D S r)
   unfolding pairs
-  pair-in r x y e = flat-in (λ z. map (pair z) (successors D S r z)) (elements S) (element-in S x (e .from-in)) (map-in (pair x) (successor-in r x y (e .to-in) (e .has)))
+  pair-in r x y e = by-in S (successors D S r) x y (e .from-in) (successor-in r x y (e .to-in) (e .has))
 
   pub in-pairs : (r : ℕ) (p : Pair) → Member p (pairs D S r) → Edge r (p .from) (p .to)
   unfolding pairs
   in-pairs r p m =
-      let a = in-flat (λ z. map (pair z) (successors D S r z)) p (elements S) m in
-      let b = in-map (pair (a .0)) p (successors D S r (a .0)) (a .2) in
-      let c = in-successors r (a .0) (b .0) (b .1) in
-      rw (b .2) (record { from-in = in-elements S (a .0) (a .1); to-in = c .0; has = c .1 })
+      let a = in-by S (successors D S r) p m in
+      let c = in-successors r (p .from) (p .to) (a .1) in
+      record { from-in = a .0; to-in = c .0; has = c .1 }
+
+  -- a pair of a role word between two elements
+  pub record PairAt (r : Role) (x y : ℕ) : Type 0 where
+    pub from-in : x < S .size
+    pub to-in : y < S .size
+    pub has : hasPair D S r x y ≡ true
+
+  pub word-pair-in : (r : Role) (x y : ℕ) → PairAt r x y → Member (pair x y) (pairsOf D S r)
+  word-pair-in r x y e = by-in S (successorsOf D S r) x y (e .from-in) (keep-in (hasPair D S r x) (elements S) y (element-in S y (e .to-in)) (e .has))
+
+  pub in-word-pairs : (r : Role) (p : Pair) → Member p (pairsOf D S r) → PairAt r (p .from) (p .to)
+  in-word-pairs r p m =
+      let a = in-by S (successorsOf D S r) p m in
+      let c = in-keep (hasPair D S r (p .from)) (elements S) (p .to) (a .1) in
+      record { from-in = a .0; to-in = in-elements S (p .to) (c .0); has = c .1 }
 
   -- ---- the checks
   module _ (C : Verdict → Type 0) where
-    pub pairs-case : (r : ℕ) (f : Pair → Judgement) (w : Pair → Witnesses)
-        → ((x y : ℕ) → Edge r x y → f (pair x y) ≡ False → C (Fails (w (pair x y))))
-        → ((x y t : ℕ) → Edge r x y → f (pair x y) ≡ Unresolved t → C (UnhandledConcept t))
-        → (((x y : ℕ) → Edge r x y → f (pair x y) ≡ True) → C Holds)
+    pub pairs-case : (r : Role) (f : Pair → Judgement) (w : Pair → Witnesses)
+        → ((x y : ℕ) → PairAt r x y → f (pair x y) ≡ False → C (Fails (w (pair x y))))
+        → ((x y t : ℕ) → PairAt r x y → f (pair x y) ≡ Unresolved t → C (UnhandledConcept t))
+        → (((x y : ℕ) → PairAt r x y → f (pair x y) ≡ True) → C Holds)
         → C (atPairs D S r f w)
     pairs-case r f w fails opens holds =
-        scan-case f w C (pairs D S r) (λ p m. fails (p .from) (p .to) (in-pairs r p m)) (λ p t m. opens (p .from) (p .to) t (in-pairs r p m)) (λ h. holds (λ x y e. h (pair x y) (pair-in r x y e)))
+        scan-case f w C (pairsOf D S r) (λ p m. fails (p .from) (p .to) (in-word-pairs r p m)) (λ p t m. opens (p .from) (p .to) t (in-word-pairs r p m)) (λ h. holds (λ x y e. h (pair x y) (word-pair-in r x y e)))
 
-    pub within-case : (sub sup : ℕ)
-        → ((x y : ℕ) → Edge sub x y → hasEdge D S sup x y ≡ false → C (Fails (two x y)))
-        → (((x y : ℕ) → Edge sub x y → hasEdge D S sup x y ≡ true) → C Holds)
+    pub within-case : (sub sup : Role)
+        → ((x y : ℕ) → PairAt sub x y → hasPair D S sup x y ≡ false → C (Fails (two x y)))
+        → (((x y : ℕ) → PairAt sub x y → hasPair D S sup x y ≡ true) → C Holds)
         → C (within D S sub sup)
     unfolding within
     within-case sub sup fails holds =
-        pairs-case sub (λ p. truth (hasEdge D S sup (p .from) (p .to))) (λ p. two (p .from) (p .to)) (λ x y e q. fails x y e (truth-false (hasEdge D S sup x y) q)) (λ x y t e q. absurd (truth-open (hasEdge D S sup x y) t q))
-        (λ h. holds (λ x y e. truth-true (hasEdge D S sup x y) (h x y e)))
+        pairs-case sub (λ p. truth (hasPair D S sup (p .from) (p .to))) (λ p. two (p .from) (p .to)) (λ x y e q. fails x y e (truth-false (hasPair D S sup x y) q)) (λ x y t e q. absurd (truth-open (hasPair D S sup x y) t q))
+        (λ h. holds (λ x y e. truth-true (hasPair D S sup x y) (h x y e)))
 
   pub onward-case : (C : Verdict → Type 0) (b sup x y : ℕ)
       → ((z : ℕ) → z < S .size → hasEdge D S b y z ≡ true → hasEdge D S sup x z ≡ false → C (Fails (three x y z)))
@@ -109,12 +134,12 @@ module _ (D : Deck) (S : Structure) where
       (λ z l k q. fails (p .from) (p .to) z e (record { from-in = e .to-in; to-in = l; has = k }) q) (λ h. h))
       (λ h. holds (λ x y z e k. h (pair x y) (pair-in a x y e) z (k .to-in) (k .has)))
 
-  -- the edges of one member in another
+  -- the pairs of one member in another
   abbrev pub Inside : Role → Role → Type 0
-  Inside a b = eqb (roleId a) (roleId b) ≡ false → (x y : ℕ) → Edge (roleId a) x y → hasEdge D S (roleId b) x y ≡ true
+  Inside a b = eqb (roleId a) (roleId b) ≡ false → (x y : ℕ) → PairAt a x y → hasPair D S b x y ≡ true
 
   pub equivalent-case : (C : Verdict → Type 0) (l : List Role)
-      → ((a b : Role) → Member a l → Member b l → eqb (roleId a) (roleId b) ≡ false → (x y : ℕ) → Edge (roleId a) x y → hasEdge D S (roleId b) x y ≡ false → C (Fails (two x y)))
+      → ((a b : Role) → Member a l → Member b l → eqb (roleId a) (roleId b) ≡ false → (x y : ℕ) → PairAt a x y → hasPair D S b x y ≡ false → C (Fails (two x y)))
       → (((a b : Role) → Member a l → Member b l → Inside a b) → C Holds)
       → C (equivalent D S l)
   unfolding equivalent
@@ -124,9 +149,9 @@ module _ (D : Deck) (S : Structure) where
       (λ h. holds (λ a b m n. h a m b n))
     where
       go : (a b : Role) → Member a l → Member b l → (t : Bool) → eqb (roleId a) (roleId b) ≡ t
-          → Case (Inside a b) (Case ((b : Role) → Member b l → Inside a b) C) (cond t Holds (within D S (roleId a) (roleId b)))
+          → Case (Inside a b) (Case ((b : Role) → Member b l → Inside a b) C) (cond t Holds (within D S a b))
       go a b m n true q = λ r. clash (cc)
-      go a b m n false q = within-case (Case (Inside a b) (Case ((b : Role) → Member b l → Inside a b) C)) (roleId a) (roleId b) (fails a b m n q) (λ h r. h)
+      go a b m n false q = within-case (Case (Inside a b) (Case ((b : Role) → Member b l → Inside a b) C)) a b (fails a b m n q) (λ h r. h)
 
   pub guarded-case : (C : Verdict → Type 0) (r : ℕ)
       → C (GuardedRoleHasEdges (record { 0 = r }))

@@ -1,15 +1,16 @@
 -- Walking the lent list of edges: how many there are, and which is the i-th; a test of the edges that are left.
 use Prim.Native.Nat.{ℕ, zero, suc, _+_, _*_, _<_, _≤_}
 use mathlib.Core.Bool.{Bool, true, false}
-use mathlib.Core.Path.{_≡_, refl, _∙_}
+use mathlib.Core.Path.{_≡_, refl, ap, _∙_}
 use mathlib.Core.List.{List, [], _∷_, map}
 use native.Mathlib.Nat.{mul-le-mul-right, suc-mul, not-suc-le-zero, le-of-suc-le-suc}
 use native.Mathlib.Omega.{arith}
-use lib.ListN.{length, getD, take, drop, length-map, drop-of-length-le}
+use lib.ListN.{length, getD, take, drop, length-map, drop-of-length-le, List·getD-map}
 use lib.Seq.{length-take-le}
+use Rattle.deck.specs.Deck.{Role}
 use Rattle.eval.specs.declared.edges.Edge.{Edge}
 use Rattle.eval.specs.Lists.{any}
-use Rattle.eval.specs.Edges.{edgeOf, edgesOf}
+use Rattle.eval.specs.Edges.{edgeOf, edgesOf, edgesBy, turned}
 use Rattle.eval.proofs.Walks.{list-step}
 
 -- a cell of a table of n rows of w words
@@ -32,6 +33,14 @@ edges-at [] (suc n) i h k = absurd (not-suc-le-zero k)
 edges-at (w ∷ ws) zero i h k = absurd (not-suc-le-zero h)
 edges-at (w ∷ ws) (suc n) zero h k = refl
 edges-at (w ∷ ws) (suc n) (suc i) h k = edges-at ws n i (le-of-suc-le-suc h) (le-of-suc-le-suc k)
+
+-- the same of the edges as a role word sees them
+module _ (r : Role) (rows : List (List ℕ)) (n : ℕ) (k : n ≤ length rows) where
+  pub by-length : length (edgesBy r (edgesOf rows n)) ≡ n
+  by-length = length-map (edgesOf rows n) (turned r) ∙ edges-length rows n k
+
+  pub by-at : (i : ℕ) → i < n → getD (edgesBy r (edgesOf rows n)) i (turned r noEdge) ≡ turned r (edgeOf (getD rows i []))
+  by-at i h = List·getD-map (turned r) (edgesOf rows n) i noEdge ∙ ap (turned r) (edges-at rows n i h k)
 
 -- does one of the members from position i on pass the test?
 module _ {A : Type 0} (d : A) (p : A → Bool) (l : List A) (i : ℕ) where

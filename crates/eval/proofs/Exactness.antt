@@ -72,7 +72,7 @@ module _ (D : Deck) (W : Sound D) (S : Structure) where
   decided-plain (Axiom.DisjointClasses l) p =
       at-elements (λ e. atMostOne (map (λ c. judge D S c e) l)) (λ e. one-decided (λ c. judge D S c e) l (λ c m. settled D W S c (every-at (plain D) l c p m) e))
   decided-plain (Axiom.DisjointUnion k l) p = clash (cc)
-  decided-plain (Axiom.SubObjectPropertyOf (Role.Named r) (Role.Named s)) p = within-case D S Decided r s (λ x y u v. it-fails _) (λ h. it-holds)
+  decided-plain (Axiom.SubObjectPropertyOf (Role.Named r) (Role.Named s)) p = within-case D S Decided (Role.Named r) (Role.Named s) (λ x y u v. it-fails _) (λ h. it-holds)
   decided-plain (Axiom.SubObjectPropertyOf (Role.Named r) (Role.Inverse s)) p = clash (cc)
   decided-plain (Axiom.SubObjectPropertyOf (Role.Inverse r) s) p = clash (cc)
   decided-plain (Axiom.SubObjectPropertyChain l sup) p = chain-plain l sup p
@@ -80,10 +80,10 @@ module _ (D : Deck) (W : Sound D) (S : Structure) where
   decided-plain (Axiom.DisjointObjectProperties l) p = clash (cc)
   decided-plain (Axiom.InverseObjectProperties r s) p = clash (cc)
   decided-plain (Axiom.ObjectPropertyDomain (Role.Named r) c) p =
-      pairs-case D S Decided r (λ q. judge D S c (q .from)) (λ q. one (q .from)) (λ x y u v. it-fails _) (λ x y t u v. absurd (never-open (judge D S c x) t (settled D W S c p x) v)) (λ h. it-holds)
+      pairs-case D S Decided (Role.Named r) (λ q. judge D S c (q .from)) (λ q. one (q .from)) (λ x y u v. it-fails _) (λ x y t u v. absurd (never-open (judge D S c x) t (settled D W S c p x) v)) (λ h. it-holds)
   decided-plain (Axiom.ObjectPropertyDomain (Role.Inverse r) c) p = clash (cc)
   decided-plain (Axiom.ObjectPropertyRange (Role.Named r) c) p =
-      pairs-case D S Decided r (λ q. judge D S c (q .to)) (λ q. one (q .to)) (λ x y u v. it-fails _) (λ x y t u v. absurd (never-open (judge D S c y) t (settled D W S c p y) v)) (λ h. it-holds)
+      pairs-case D S Decided (Role.Named r) (λ q. judge D S c (q .to)) (λ q. one (q .to)) (λ x y u v. it-fails _) (λ x y t u v. absurd (never-open (judge D S c y) t (settled D W S c p y) v)) (λ h. it-holds)
   decided-plain (Axiom.ObjectPropertyRange (Role.Inverse r) c) p = clash (cc)
   decided-plain (Axiom.TransitiveRole (Role.Named r)) p = composed-case D S Decided r r r (λ x y z u v w. it-fails _) (λ h. it-holds)
   decided-plain (Axiom.TransitiveRole (Role.Inverse r)) p = clash (cc)

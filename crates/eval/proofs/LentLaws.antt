@@ -20,12 +20,12 @@ use Rattle.eval.specs.declared.shape.Shape.{Shape}
 use Rattle.eval.specs.declared.judgement.Judgement.the-variants.{Unresolved}
 use Rattle.eval.specs.Standing.{fresh}
 use Rattle.eval.specs.Structure.{Structure, elements, hasEdge, hasPair, successorsOf, inverse}
-use Rattle.eval.specs.Edges.{edgeOf, edgesOf, turned, under, leaves, goes, linked}
+use Rattle.eval.specs.Edges.{edgeOf, edgesOf, edgesBy, turned, under, leaves, goes, linked}
 use Rattle.eval.specs.Judge.{judge, judgeOf, someFrom}
 use Rattle.eval.specs.Lent.{Fits, EdgeFits, structureOf}
 use Rattle.eval.proofs.ListLaws.{member-at, position, keep-in, in-keep, any-at, any-of}
 use Rattle.eval.proofs.EdgeLaws as edge-laws
-use Rattle.eval.proofs.EdgeWalks.{noEdge, edges-length, edges-at}
+use Rattle.eval.proofs.EdgeWalks.{noEdge, edges-length, edges-at, by-at}
 use Rattle.eval.proofs.Hits.{hits, hit-in, in-hits}
 use Rattle.eval.proofs.LinkLaws.{both, has-edge-is}
 use Rattle.eval.proofs.RoleLaws.{inverse-word}
@@ -89,15 +89,18 @@ module _ (s labels : List ℕ) (rows : List (List ℕ)) (shape : Shape) (F : Fit
       }
 
   -- ---- the same of a role word, whose edges are turned if it is inverse
+  turned-fits : (r : Role) (e : Edge) → Member e es → EdgeFits D (shape .elements) (turned r e)
+  turned-fits (Role.Named r) e m = let f = edge-fits e m in record { role = f .role; from = f .from; to = f .to }
+  turned-fits (Role.Inverse r) e m = let f = edge-fits e m in record { role = f .role; from = f .to; to = f .from }
+
   pair-has : (r : Role) (e : Edge) → Member e es → under D (roleId r) e ≡ true → hasPair D S r (turned r e .from .0) (turned r e .to .0) ≡ true
   pair-has (Role.Named r) e m h = edge-has r e m h
   pair-has (Role.Inverse r) e m h = edge-has r e m h
 
-  turned-to : (r : Role) (e : Edge) → Member e es → turned r e .to .0 < shape .elements
-  turned-to (Role.Named r) e m = edge-fits e m .to
-  turned-to (Role.Inverse r) e m = edge-fits e m .from
+  pub seen-at : (r : Role) (e : Edge) → Member e es → under D (roleId r) e ≡ true → edge-laws.PairAt D S r (turned r e .from .0) (turned r e .to .0)
+  seen-at r e m h = let f = turned-fits r e m in record { from-in = f .from; to-in = f .to; has = pair-has r e m h }
 
-  pair-listed : (r : Role) (x y : ℕ) → hasPair D S r x y ≡ true → (e : Edge) × Member e es × (turned r e .from .0 ≡ x) × (turned r e .to .0 ≡ y) × (under D (roleId r) e ≡ true)
+  pub pair-listed : (r : Role) (x y : ℕ) → hasPair D S r x y ≡ true → (e : Edge) × Member e es × (turned r e .from .0 ≡ x) × (turned r e .to .0 ≡ y) × (under D (roleId r) e ≡ true)
   pair-listed (Role.Named r) x y h = let k = has-listed r x y h in (k .edge, k .«in», k .from-is, k .to-is, k .by)
   pair-listed (Role.Inverse r) x y h = let k = has-listed r y x h in (k .edge, k .«in», k .to-is, k .from-is, k .by)
 
@@ -107,7 +110,7 @@ module _ (s labels : List ℕ) (rows : List (List ℕ)) (shape : Shape) (F : Fit
         let e = in-hits (leavesBy D r x) (targetBy r) es y m in
         let from = eqb (turned r (e .0) .from .0) x in
         let f = eqb-true (turned r (e .0) .from .0) x (and-left from _ (e .2)) in
-        rw (e .3) (keep-in (hasPair D S r x) (elements S) (targetBy r (e .0)) (edge-laws.element-in S (targetBy r (e .0)) (turned-to r (e .0) (e .1))) (rw f at (pair-has r (e .0) (e .1) (and-right from _ (e .2)))))
+        rw (e .3) (keep-in (hasPair D S r x) (elements S) (targetBy r (e .0)) (edge-laws.element-in S (targetBy r (e .0)) (turned-fits r (e .0) (e .1) .to)) (rw f at (pair-has r (e .0) (e .1) (and-right from _ (e .2)))))
 
     of-successor : (y : ℕ) → Member y (successorsOf D S r x) → Member y (hits (leavesBy D r x) (targetBy r) es)
     of-successor y m =
@@ -126,8 +129,13 @@ module _ (s labels : List ℕ) (rows : List (List ℕ)) (shape : Shape) (F : Fit
     pub edge-leaves : (x : ℕ) {q : ℕ} {b : Bool} → q ≡ w / 2 → b ≡ leaves D q x edge → leavesBy D (roleOf w) x (getD es i noEdge) ≡ b
     edge-leaves x {q} {b} of p = rw (edges-at rows (shape .edges) i h (F .count), role-id w) (sym (rw (of, is) at p))
 
-    pub edge-led-in : edge .to .0 < shape .elements
-    edge-led-in = let l = edges-length rows (shape .edges) (F .count) in rw edge-led (turned-to (roleOf w) (getD es i noEdge) (member-at noEdge es i (omega (arith, l))))
+    pub edge-under : {q : ℕ} {b : Bool} → q ≡ w / 2 → b ≡ under D q edge → under D (roleId (roleOf w)) (getD (edgesBy (roleOf w) es) i (turned (roleOf w) noEdge)) ≡ b
+    edge-under {q} {b} of p = rw (by-at (roleOf w) rows (shape .edges) (F .count) i h, role-id w) (sym (rw (of, is) at p))
+
+    pub edge-by-fits : EdgeFits D (shape .elements) edge
+    edge-by-fits =
+        let l = edges-length rows (shape .edges) (F .count) in
+        rw (is ∙ ap (turned (roleOf w)) (sym (edges-at rows (shape .edges) i h (F .count)))) (turned-fits (roleOf w) (getD es i noEdge) (member-at noEdge es i (omega (arith, l))))
 
   -- ---- a concept that was read
   module _ (c e : ℕ) {expr : ConceptExpr} (R : ConceptRead s c expr) where

@@ -1,5 +1,5 @@
 -- The edges of a role in a lent structure: sub-roles' buckets, or one walk over the list with a test of the role.
-use Prim.Native.Nat.{ℕ}
+use Prim.Native.Nat.{ℕ, _/_}
 use mathlib.Core.Bool.{Bool, true, false, _&&_, _||_}
 use mathlib.Core.Path.{_≡_, refl, sym, ap, _∙_}
 use mathlib.Core.Logic.{⊎-elim}
@@ -7,13 +7,14 @@ use mathlib.Core.List.{List, [], _∷_, map, List·Memᴰ as Member, List·Mem�
 use native.Mathlib.Omega.{arith}
 use borrow.Author.Tests.{eqb-true, eq-eqb}
 use lib.Dec.{eqb}
-use Rattle.deck.specs.Deck.{Deck, roleAt, has}
+use Rattle.deck.specs.Numbers.{inverseWord}
+use Rattle.deck.specs.Deck.{Deck, Role, roleOf, roleAt, has}
 use Rattle.deck.proofs.BelowLaws.{and-left, and-right}
 use Rattle.eval.specs.declared.edges.Edge.{Edge}
 use Rattle.eval.specs.declared.shape.Shape.{Shape}
 use Rattle.eval.specs.Lists.{any}
-use Rattle.eval.specs.Structure.{hasEdge}
-use Rattle.eval.specs.Edges.{edgesOf, isEdge, edgeIn, under, goes, linked}
+use Rattle.eval.specs.Structure.{hasEdge, hasPair}
+use Rattle.eval.specs.Edges.{edgesOf, isEdge, edgeIn, under, goes, linked, linkedBy}
 use Rattle.eval.specs.Lent.{structureOf}
 use Rattle.eval.proofs.ListLaws.{any-at, any-of}
 
@@ -72,3 +73,16 @@ pub has-edge-is : (D : Deck) (labels : List ℕ) (rows : List (List ℕ)) (shape
     → hasEdge D (structureOf D labels rows shape) r x y ≡ linked D (edgesOf rows (shape .edges)) r x y
 unfolding hasEdge
 has-edge-is D labels rows shape r x y = same-truth _ _ (to-linked D (edgesOf rows (shape .edges)) r x y) (of-linked D (edgesOf rows (shape .edges)) r x y)
+
+-- the same of a role word
+pub has-pair-is : (D : Deck) (labels : List ℕ) (rows : List (List ℕ)) (shape : Shape) (r : Role) (x y : ℕ)
+    → hasPair D (structureOf D labels rows shape) r x y ≡ linkedBy D (edgesOf rows (shape .edges)) r x y
+has-pair-is D labels rows shape (Role.Named r) x y = has-edge-is D labels rows shape r x y
+has-pair-is D labels rows shape (Role.Inverse r) x y = has-edge-is D labels rows shape r y x
+
+module _ (D : Deck) (es : List Edge) (w x y : ℕ) where
+  pub linked-inverse : inverseWord w ≡ true → linked D es (w / 2) y x ≡ linkedBy D es (roleOf w) x y
+  linked-inverse h = rw h
+
+  pub linked-named : inverseWord w ≡ false → linked D es (w / 2) x y ≡ linkedBy D es (roleOf w) x y
+  linked-named h = rw h

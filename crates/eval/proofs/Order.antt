@@ -1,5 +1,5 @@
 -- Checks over the edges of a role, walked in any order: the lowest edge that fails is the witness; else one tag, else all hold.
---     pairs-least, pairs-opens, pairs-holds       an outcome at each edge
+--     pairs-least, pairs-opens, pairs-holds       an outcome at each pair of a role word
 --     onward-least, onward-holds                  the edges that go on from an edge
 --     composed-least, composed-holds              two edges, one after the other
 --     guarded-some, guarded-none                  is there an edge?
@@ -10,7 +10,7 @@ use mathlib.Core.Logic.{_⊎_, ⊎-elim}
 use mathlib.Core.List.{List, [], _∷_, _++_, map, flatMap, append-assoc, map-append, List·Memᴰ as Member, List·Memᴰ·head as here, List·Memᴰ·tail as there, List·Memᴰ·append-cases as append-cases, Memᴰ·append-left as append-left}
 use native.Mathlib.Omega.{arith}
 use native.Mathlib.Nat.{add-zero}
-use Rattle.deck.specs.Deck.{Deck}
+use Rattle.deck.specs.Deck.{Deck, Role}
 use Rattle.eval.proofs.Clash.{clash, both-ways}
 use Rattle.eval.specs.declared.judgement.Judgement.{Judgement}
 use Rattle.eval.specs.declared.judgement.Judgement.the-variants.{False, True, Unresolved}
@@ -20,11 +20,11 @@ use Rattle.eval.specs.declared.verdict.Verdict.{Verdict}
 use Rattle.eval.specs.declared.verdict.Verdict.the-variants.{Holds, Fails, UnhandledAxiom, UnhandledConcept, GuardedRoleHasEdges}
 use Rattle.eval.specs.Standing.{fresh, andNext}
 use Rattle.eval.specs.Lists.{range, keep}
-use Rattle.eval.specs.Structure.{Structure, elements, hasEdge, successors, Pair, pair, pairs}
+use Rattle.eval.specs.Structure.{Structure, elements, hasEdge, hasPair, successorsOf, successors, Pair, pair, pairsBy, pairsOf, pairs}
 use Rattle.eval.specs.Judge.{truth}
 use Rattle.eval.specs.Verdict.{scan, failsAt, inTurn, orElse, atPairs, onward, composed, guardedBy, guarded, three}
 use Rattle.eval.proofs.ListLaws.{in-range, in-keep, in-map, in-flat}
-use Rattle.eval.proofs.EdgeLaws.{Edge, in-pairs, in-successors, pairs-case, onward-case, composed-case, guarded-case, truth-false}
+use Rattle.eval.proofs.EdgeLaws.{Edge, PairAt, in-pairs, in-word-pairs, in-successors, pairs-case, onward-case, composed-case, guarded-case, truth-false}
 
 -- ---- the first place that fails
 pub scan-first : {A : Type 0} (f : A → Judgement) (w : A → Witnesses) (s : Standing) (xs : List A) (x : A) (ys : List A)
@@ -97,57 +97,65 @@ elements-part S x h = record {
   lower = λ y m. omega (arith, in-range 0 x y m .1);
 }
 
-module _ (D : Deck) (S : Structure) where
-  successors-part : (r x y : ℕ) → y < S .size → hasEdge D S r x y ≡ true → Parted (λ z. z < y) (successors D S r x) y
-  unfolding successors keep
-  successors-part r x y h e =
+-- "by from then to"
+abbrev pub Below : ℕ → ℕ → Pair → Type 0
+Below x y q = (q .from < x) ⊎ ((q .from ≡ x) × (q .to < y))
+
+module _ (S : Structure) where
+  kept-part : (test : ℕ → Bool) (y : ℕ) → y < S .size → test y ≡ true → Parted (λ z. z < y) (keep test (elements S)) y
+  unfolding keep
+  kept-part test y h e =
       let p = elements-part S y h in
       record {
-        before = keep (hasEdge D S r x) (p .before);
-        behind = keep (hasEdge D S r x) (p .behind);
-        parts = ap (keep (hasEdge D S r x)) (p .parts) ∙ keep-parts (hasEdge D S r x) (p .before) (y ∷ p .behind) ∙ rw e;
-        lower = λ z m. p .lower z (in-keep (hasEdge D S r x) (p .before) z m .0);
+        before = keep test (p .before);
+        behind = keep test (p .behind);
+        parts = ap (keep test) (p .parts) ∙ keep-parts test (p .before) (y ∷ p .behind) ∙ rw e;
+        lower = λ z m. p .lower z (in-keep test (p .before) z m .0);
       }
 
-  -- "by from then to"
-  abbrev pub Below : ℕ → ℕ → Pair → Type 0
-  Below x y q = (q .from < x) ⊎ ((q .from ≡ x) × (q .to < y))
-
-  pairs-part : (r x y : ℕ) → Edge D S r x y → Parted (Below x y) (pairs D S r) (pair x y)
-  unfolding pairs flatMap
-  pairs-part r x y e =
-      let p = elements-part S x (e .from-in) in
-      let q = successors-part r x y (e .to-in) (e .has) in
+  by-part : (next : ℕ → List ℕ) (x y : ℕ) → x < S .size → Parted (λ z. z < y) (next x) y → Parted (Below x y) (pairsBy S next) (pair x y)
+  unfolding flatMap
+  by-part next x y h q =
+      let p = elements-part S x h in
       record {
-        before = flatMap (λ z. map (pair z) (successors D S r z)) (p .before) ++ map (pair x) (q .before);
-        behind = map (pair x) (q .behind) ++ flatMap (λ z. map (pair z) (successors D S r z)) (p .behind);
+        before = flatMap (λ z. map (pair z) (next z)) (p .before) ++ map (pair x) (q .before);
+        behind = map (pair x) (q .behind) ++ flatMap (λ z. map (pair z) (next z)) (p .behind);
         parts =
-            ap (flatMap (λ z. map (pair z) (successors D S r z))) (p .parts)
-            ∙ flat-parts (λ z. map (pair z) (successors D S r z)) (p .before) (x ∷ p .behind)
+            ap (flatMap (λ z. map (pair z) (next z))) (p .parts)
+            ∙ flat-parts (λ z. map (pair z) (next z)) (p .before) (x ∷ p .behind)
             ∙ rw (q .parts, map-append (pair x) (q .before) (y ∷ q .behind), append-assoc, append-assoc);
         lower = λ u m. ⊎-elim
             (λ n.
-            let a = in-flat (λ z. map (pair z) (successors D S r z)) u (p .before) n in
-            let b = in-map (pair (a .0)) u (successors D S r (a .0)) (a .2) in
+            let a = in-flat (λ z. map (pair z) (next z)) u (p .before) n in
+            let b = in-map (pair (a .0)) u (next (a .0)) (a .2) in
             _⊎_.inl (rw (b .2) (p .lower (a .0) (a .1))))
             (λ n. let b = in-map (pair x) u (q .before) n in _⊎_.inr (rw (b .2) (refl, q .lower (b .0) (b .1))))
-            (append-cases (flatMap (λ z. map (pair z) (successors D S r z)) (p .before)) m);
+            (append-cases (flatMap (λ z. map (pair z) (next z)) (p .before)) m);
       }
 
-  -- ---- an outcome at each edge
-  module _ (r : ℕ) (f : Pair → Judgement) (w : Pair → Witnesses) where
-    pub pairs-least : (x y : ℕ) → Edge D S r x y → f (pair x y) ≡ False → ((p q : ℕ) → Edge D S r p q → Below x y (pair p q) → f (pair p q) ≡ False → ⊥) → atPairs D S r f w ≡ Fails (w (pair x y))
-    pairs-least x y e n h =
-        let t = pairs-part r x y e in
-        let mem : (p : Pair) → Member p (t .before) → Member p (pairs D S r) = λ p m. rw (t .parts) (append-left (pair x y ∷ t .behind) m) in
-        ap (scan f w fresh) (t .parts) ∙ scan-first f w fresh (t .before) (pair x y) (t .behind) (λ p m. h (p .from) (p .to) (in-pairs D S r p (mem p m)) (t .lower p m)) n
+module _ (D : Deck) (S : Structure) where
+  successors-part : (r x y : ℕ) → y < S .size → hasEdge D S r x y ≡ true → Parted (λ z. z < y) (successors D S r x) y
+  unfolding successors
+  successors-part r x y h e = kept-part S (hasEdge D S r x) y h e
 
-    pub pairs-opens : (tag : ℕ) → ((x y t : ℕ) → Edge D S r x y → f (pair x y) ≡ Unresolved t → t ≡ tag) → ((x y : ℕ) → Edge D S r x y → f (pair x y) ≡ False → ⊥)
-        → (x y t : ℕ) → Edge D S r x y → f (pair x y) ≡ Unresolved t → atPairs D S r f w ≡ UnhandledConcept t
+  pairs-part : (r x y : ℕ) → Edge D S r x y → Parted (Below x y) (pairs D S r) (pair x y)
+  unfolding pairs
+  pairs-part r x y e = by-part S (successors D S r) x y (e .from-in) (successors-part r x y (e .to-in) (e .has))
+
+  -- ---- an outcome at each pair of a role word
+  module _ (r : Role) (f : Pair → Judgement) (w : Pair → Witnesses) where
+    pub pairs-least : (x y : ℕ) → PairAt D S r x y → f (pair x y) ≡ False → ((p q : ℕ) → PairAt D S r p q → Below x y (pair p q) → f (pair p q) ≡ False → ⊥) → atPairs D S r f w ≡ Fails (w (pair x y))
+    pairs-least x y e n h =
+        let t = by-part S (successorsOf D S r) x y (e .from-in) (kept-part S (hasPair D S r x) y (e .to-in) (e .has)) in
+        let mem : (p : Pair) → Member p (t .before) → Member p (pairsOf D S r) = λ p m. rw (t .parts) (append-left (pair x y ∷ t .behind) m) in
+        ap (scan f w fresh) (t .parts) ∙ scan-first f w fresh (t .before) (pair x y) (t .behind) (λ p m. h (p .from) (p .to) (in-word-pairs D S r p (mem p m)) (t .lower p m)) n
+
+    pub pairs-opens : (tag : ℕ) → ((x y t : ℕ) → PairAt D S r x y → f (pair x y) ≡ Unresolved t → t ≡ tag) → ((x y : ℕ) → PairAt D S r x y → f (pair x y) ≡ False → ⊥)
+        → (x y t : ℕ) → PairAt D S r x y → f (pair x y) ≡ Unresolved t → atPairs D S r f w ≡ UnhandledConcept t
     pairs-opens tag steady none x y t e n =
         pairs-case D S (λ v. v ≡ UnhandledConcept t) r f w (λ p q k i. absurd (none p q k i)) (λ p q u k i. cc (steady p q u k i, steady x y t e n)) (λ h. clash (cc (h x y e)))
 
-    pub pairs-holds : ((x y : ℕ) → Edge D S r x y → f (pair x y) ≡ True) → atPairs D S r f w ≡ Holds
+    pub pairs-holds : ((x y : ℕ) → PairAt D S r x y → f (pair x y) ≡ True) → atPairs D S r f w ≡ Holds
     pairs-holds h =
         pairs-case D S (λ v. v ≡ Holds) r f w (λ x y e i. clash (cc (h x y e))) (λ x y t e i. clash (cc (h x y e))) (λ k. refl)
 

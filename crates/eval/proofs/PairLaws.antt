@@ -1,4 +1,4 @@
--- A walk over the list of edges, in its own order, decides a check over the edges of a role "by from then to".
+-- A walk over the list of edges, in its own order, decides a check over the pairs of a role word, or over the edges of a role, "by from then to".
 --     pairs-fail, pairs-open, pairs-hold      the three ways it ends
 --     steady                                  a demand is left open with one tag only
 use Prim.Native.Nat.{ℕ, _<_}
@@ -7,13 +7,14 @@ use mathlib.Core.Path.{_≡_, refl, sym, ap, _∙_}
 use mathlib.Core.Logic.{_⊎_, ⊎-elim}
 use mathlib.Core.List.{List, map, List·Memᴰ as Member}
 use Rattle.eval.specs.Lists.{any}
-use Rattle.eval.proofs.ListLaws.{any-of, none-at}
+use Rattle.eval.proofs.ListLaws.{any-of, none-at, map-in, in-map}
 use borrow.Author.Tests.{lt-ltb, eq-eqb, eqb-true}
 use lib.Dec.{ltb, eqb}
-use Rattle.deck.specs.Deck.{Deck}
+use Rattle.deck.specs.Deck.{Deck, Role, roleOf, roleId}
 use Rattle.deck.specs.Content.{deckOf}
 use Rattle.deck.specs.Sound.{Sound}
 use Rattle.deck.proofs.BelowLaws.{and-left, and-right}
+use Rattle.deck.specs.declared.numbers.RoleWord.{RoleWord}
 use Rattle.eval.specs.declared.edges.Edge.{Edge}
 use Rattle.eval.specs.declared.shape.Shape.{Shape}
 use Rattle.eval.specs.declared.demand.Demand.{Demand}
@@ -24,17 +25,17 @@ use Rattle.eval.specs.declared.lowest.Lowest.{Lowest}
 use Rattle.eval.specs.declared.verdict.Witnesses.{Witnesses}
 use Rattle.eval.specs.declared.verdict.Verdict.{Verdict}
 use Rattle.eval.specs.declared.verdict.Verdict.the-variants.{Holds, Fails, UnhandledAxiom, UnhandledConcept, GuardedRoleHasEdges}
-use Rattle.eval.specs.Structure.{Structure, Pair, pair, hasEdge}
+use Rattle.eval.specs.Structure.{Structure, Pair, pair, hasEdge, hasPair}
 use Rattle.eval.specs.Judge.{truth}
-use Rattle.eval.specs.Edges.{edgesOf, under, leaves}
+use Rattle.eval.specs.Edges.{edgesOf, edgesBy, turned, under, leaves, linkedBy}
 use Rattle.eval.specs.Lent.{Fits, structureOf}
 use Rattle.eval.specs.Lowest.{before, Among, Seen}
 use Rattle.eval.specs.Demand.{demandAt}
 use Rattle.eval.specs.Verdict.{atPairs, three, onward, composed, guarded, isHolds}
 use Rattle.eval.proofs.Clash.{clash, both-ways}
 use Rattle.eval.proofs.EdgeLaws as edge-laws
-use Rattle.eval.proofs.LinkLaws.{both}
-use Rattle.eval.proofs.LentLaws.{edge-fits, edge-has, Listed, has-listed}
+use Rattle.eval.proofs.LinkLaws.{both, has-pair-is}
+use Rattle.eval.proofs.LentLaws.{edge-fits, edge-has, Listed, has-listed, seen-at, pair-listed}
 use Rattle.eval.proofs.Order.{Below, pairs-least, pairs-opens, pairs-holds, onward-least, onward-holds, composed-first, composed-all, guarded-some, guarded-none}
 use Rattle.eval.proofs.Tags.{openTag, open-tag}
 
@@ -61,34 +62,45 @@ module _ (s labels : List ℕ) (rows : List (List ℕ)) (shape : Shape) (F : Fit
       let f = edge-fits s labels rows shape F e (m .member) in
       record { from-in = f .from; to-in = f .to; has = edge-has s labels rows shape F r e (m .member) (m .passes) }
 
-  module _ (r : ℕ) (g : Pair → Judgement) (w : Pair → Witnesses) {l : Lowest} (Z : Seen (Among (under D r) es) (λ e. g (pair (e .from .0) (e .to .0))) l) where
-    -- what holds of the edges that were met holds of the role's
-    never : (j : Judgement) → ((e : Edge) → Among (under D r) es e → g (pair (e .from .0) (e .to .0)) ≡ j → ⊥) → (x y : ℕ) → edge-laws.Edge D S r x y → g (pair x y) ≡ j → ⊥
+  -- the same of the pairs of a role word, in the list of the edges as it sees them
+  word-edge-from : (r : Role) (e : Edge) → Among (under D (roleId r)) (edgesBy r es) e → edge-laws.PairAt D S r (e .from .0) (e .to .0)
+  word-edge-from r e m =
+      let a = in-map (turned r) e es (m .member) in
+      rw (a .2) (seen-at s labels rows shape F r (a .0) (a .1) (rw (a .2) at (m .passes)))
+
+  listed-by : (r : Role) (x y : ℕ) → hasPair D S r x y ≡ true → (e : Edge) × Among (under D (roleId r)) (edgesBy r es) e × (e .from .0 ≡ x) × (e .to .0 ≡ y)
+  listed-by r x y h =
+      let k = pair-listed s labels rows shape F r x y h in
+      (turned r (k .0), record { member = map-in (turned r) (k .1); passes = k .4 }, k .2, k .3)
+
+  module _ (r : Role) (g : Pair → Judgement) (w : Pair → Witnesses) {l : Lowest} (Z : Seen (Among (under D (roleId r)) (edgesBy r es)) (λ e. g (pair (e .from .0) (e .to .0))) l) where
+    -- what holds of the edges that were met holds of the role word's pairs
+    never : (j : Judgement) → ((e : Edge) → Among (under D (roleId r)) (edgesBy r es) e → g (pair (e .from .0) (e .to .0)) ≡ j → ⊥) → (x y : ℕ) → edge-laws.PairAt D S r x y → g (pair x y) ≡ j → ⊥
     never j h x y e p =
-        let k = has-listed s labels rows shape F r x y (e .has) in
-        h (k .edge) (record { member = k .«in»; passes = k .by }) (rw (k .from-is, k .to-is) p)
+        let k = listed-by r x y (e .has) in
+        h (k .0) (k .1) (rw (k .2, k .3) p)
 
     pub pairs-fail : l .found ≡ true → Fails (w (pair (l .from .0) (l .to .0))) ≡ atPairs D S r g w
     pairs-fail h =
         let m = Z .fails h in
         sym
-        (pairs-least D S r g w (l .from .0) (l .to .0) (rw (m .from-is, m .to-is) at (edge-from r (m .edge) (m .met))) (rw (m .from-is, m .to-is) at (m .fails))
+        (pairs-least D S r g w (l .from .0) (l .to .0) (rw (m .from-is, m .to-is) at (word-edge-from r (m .edge) (m .met))) (rw (m .from-is, m .to-is) at (m .fails))
         (λ p q e b n.
-        let k = has-listed s labels rows shape F r p q (e .has) in
-        let t = m .least (k .edge) (record { member = k .«in»; passes = k .by }) (rw (k .from-is, k .to-is) n) in
-        both-ways (before-below p q (l .from .0) (l .to .0) b) (rw (k .from-is, k .to-is) at t)))
+        let k = listed-by r p q (e .has) in
+        let t = m .least (k .0) (k .1) (rw (k .2, k .3) n) in
+        both-ways (before-below p q (l .from .0) (l .to .0) b) (rw (k .2, k .3) at t)))
 
     pub pairs-open : (tag : ℕ) → ((x y t : ℕ) → g (pair x y) ≡ Unresolved t → t ≡ tag) → l .found ≡ false → l .noted ≡ true → UnhandledConcept (l .tag) ≡ atPairs D S r g w
     pairs-open tag steady h k =
         let o = Z .opens k in
         sym
         (pairs-opens D S r g w tag (λ x y t e. steady x y t) (λ x y e. never False (Z .sound h) x y e) (o .edge .from .0) (o .edge .to .0) (l .tag)
-        (edge-from r (o .edge) (o .met)) (o .unresolved))
+        (word-edge-from r (o .edge) (o .met)) (o .unresolved))
 
     pub pairs-hold : l .found ≡ false → l .noted ≡ false → Holds ≡ atPairs D S r g w
     pairs-hold h k = sym (pairs-holds D S r g w (λ x y e. by x y e (g (pair x y)) refl))
       where
-        by : (x y : ℕ) → edge-laws.Edge D S r x y → (i : Judgement) → g (pair x y) ≡ i → g (pair x y) ≡ True
+        by : (x y : ℕ) → edge-laws.PairAt D S r x y → (i : Judgement) → g (pair x y) ≡ i → g (pair x y) ≡ True
         by x y e False q = absurd (never False (Z .sound h) x y e q)
         by x y e True q = q
         by x y e (Unresolved t) q = absurd (never (Unresolved t) (λ d m u. Z .closed k d t m u) x y e q)
@@ -174,4 +186,9 @@ demandTag D (Within r) = 0
 pub steady : (D : Deck) → Sound D → (S : Structure) (d : Demand) (x y t : ℕ) → demandAt D S d (pair x y) ≡ Unresolved t → t ≡ demandTag D d
 steady D W S (Domain c) x y t h = open-tag D W S (c .0) x t h
 steady D W S (Range c) x y t h = open-tag D W S (c .0) y t h
-steady D W S (Within r) x y t h = absurd (edge-laws.truth-open (hasEdge D S (r .0) x y) t h)
+steady D W S (Within r) x y t h = absurd (edge-laws.truth-open (hasPair D S (roleOf (r .0)) x y) t h)
+
+-- a pair held against a role word, by one walk over the list
+pub meets-within : (D : Deck) (labels : List ℕ) (rows : List (List ℕ)) (shape : Shape) (x y : ℕ) (r : RoleWord) {d : Demand} → d ≡ Within r → {b : Bool} {j : Judgement}
+    → j ≡ truth b → b ≡ linkedBy D (edgesOf rows (shape .edges)) (roleOf (r .0)) x y → j ≡ demandAt D (structureOf D labels rows shape) d (pair x y)
+meets-within D labels rows shape x y r {d} is {b} {j} t h = rw is (t ∙ ap truth (h ∙ sym (has-pair-is D labels rows shape (roleOf (r .0)) x y)))

@@ -35,6 +35,10 @@ pub none-inverse : (tag : ℕ) (v : Verdict) → unlessInverse tag [] v ≡ v
 unfolding any
 none-inverse tag v = refl
 
+-- the last of the words is not inverse
+pub named-last : (tag w : ℕ) (v : Verdict) → inverseWord w ≡ false → v ≡ unlessInverse tag (roleOf w ∷ []) v
+named-last tag w v h = sym (named-first tag w [] v h ∙ none-inverse tag v)
+
 -- one check that does not hold, and one that does
 pub holds-is : (v : Verdict) → isHolds v ≡ true → v ≡ Holds
 holds-is Holds h = refl
@@ -72,16 +76,6 @@ chain-other D S (a ∷ b ∷ c ∷ l) sup h = refl
 -- ---- members by position
 pub word-at : (l : List ℕ) (i : ℕ) → getD (map roleOf l) i (Role.Named 0) ≡ roleOf (getD l i 0)
 word-at l i = List·getD-map roleOf l i 0
-
--- a check across two roles looks at their numbers only
-pub across-word : (D : Deck) (S : Structure) (a : Role) (w : ℕ) → across D S a (Role.Named (w / 2)) ≡ across D S a (roleOf w)
-across-word D S a w = rw (role-id w)
-
-pub word-across : (D : Deck) (S : Structure) (v : ℕ) (bs : List Role) → inTurn (map (across D S (Role.Named (v / 2))) bs) ≡ inTurn (map (across D S (roleOf v)) bs)
-word-across D S v bs = ap (λ (g : Role → Verdict). inTurn (map g bs)) (fun-ext (λ b. same b))
-  where
-    same : (b : Role) → across D S (Role.Named (v / 2)) b ≡ across D S (roleOf v) b
-    same b = rw (role-id v)
 
 -- ---- a check of one, two or three roles, by their words: open at the first that is inverse, else by their numbers
 module _ (tag w : ℕ) where

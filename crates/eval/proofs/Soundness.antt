@@ -29,7 +29,7 @@ use Rattle.eval.proofs.ListLaws.{member-at, position, none-at}
 use Rattle.eval.proofs.Rightness.{right}
 use Rattle.eval.proofs.VoteLaws.{agree-false, agree-true, one-false, one-true}
 use Rattle.eval.proofs.ScanLaws.{scan-case, else-case, Case}
-use Rattle.eval.proofs.EdgeLaws.{element-in, in-elements, named-pair, Edge, pairs-case, within-case, composed-case, equivalent-case, guarded-case}
+use Rattle.eval.proofs.EdgeLaws.{element-in, in-elements, named-pair, Edge, PairAt, pairs-case, within-case, composed-case, equivalent-case, guarded-case}
 use Rattle.eval.proofs.Breaks.{Claims, implies-true, implies-false, right-true, right-false, at-one, at-two, at-three, at-chain, false-at, false-from, false-to}
 
 module _ (D : Deck) (W : Sound D) (S : Structure) (χ : Choice) where
@@ -38,6 +38,9 @@ module _ (D : Deck) (W : Sound D) (S : Structure) (χ : Choice) where
 
   edge : (r x y : ℕ) → x < S .size → y < S .size → hasEdge D S r x y ≡ true → Edge D S r x y
   edge r x y h k e = record { from-in = h; to-in = k; has = e }
+
+  at-pair : (r : Role) (x y : ℕ) → x < S .size → y < S .size → hasPair D S r x y ≡ true → PairAt D S r x y
+  at-pair r x y h k e = record { from-in = h; to-in = k; has = e }
 
   -- ---- classes
   -- an outcome at each element, with a break at an element
@@ -94,8 +97,8 @@ module _ (D : Deck) (W : Sound D) (S : Structure) (χ : Choice) where
   sub-role (Role.Named p) (Role.Inverse q) = tt
   sub-role (Role.Named p) (Role.Named q) =
       let a = Axiom.SubObjectPropertyOf (Role.Named p) (Role.Named q) in
-      within-case D S (Claims D S χ a) p q (λ x y e u. false-at D S χ a (x ∷ y ∷ []) (at-two x y (e .from-in) (e .to-in) (e .has, u)))
-      (λ h ws b. both-ways (h (b .x) (b .y) (edge p (b .x) (b .y) (b .x-in) (b .y-in) (b .breaks .0))) (b .breaks .1))
+      within-case D S (Claims D S χ a) (Role.Named p) (Role.Named q) (λ x y e u. false-at D S χ a (x ∷ y ∷ []) (at-two x y (e .from-in) (e .to-in) (e .has, u)))
+      (λ h ws b. both-ways (h (b .x) (b .y) (at-pair (Role.Named p) (b .x) (b .y) (b .x-in) (b .y-in) (b .breaks .0))) (b .breaks .1))
 
   chain-of : (l : List Role) (sup : Role) → Claims D S χ (Axiom.SubObjectPropertyChain l sup) (verdict D S (Axiom.SubObjectPropertyChain l sup))
   unfolding verdict any
@@ -130,8 +133,6 @@ module _ (D : Deck) (W : Sound D) (S : Structure) (χ : Choice) where
           (λ a b m n u x y e v.
           let i = position (Role.Named 0) a l m in
           let j = position (Role.Named 0) b l n in
-          let p : hasPair D S a x y ≡ true = named-pair D S a x y (none-at inverse l a q m) ∙ e .has in
-          let k : hasPair D S b x y ≡ false = named-pair D S b x y (none-at inverse l b q n) ∙ v in
           false-at D S χ (Axiom.EquivalentObjectProperties l) (x ∷ y ∷ [])
           (at-two x y (e .from-in) (e .to-in)
           (record {
@@ -140,7 +141,7 @@ module _ (D : Deck) (W : Sound D) (S : Structure) (χ : Choice) where
             i-in = i .1;
             j-in = j .1;
             apart = λ h. eqb-false (roleId a) (roleId b) u (ap roleId (sym (i .2) ∙ ap (λ (s : ℕ). getD l s (Role.Named 0)) h ∙ j .2));
-            related = (rw (i .2) p, rw (j .2) k);
+            related = (rw (i .2) (e .has), rw (j .2) v);
           })))
           (λ h ws b.
           let k = b .breaks in
@@ -148,15 +149,14 @@ module _ (D : Deck) (W : Sound D) (S : Structure) (χ : Choice) where
           let s = getD l (k .j) (Role.Named 0) in
           let m = member-at (Role.Named 0) l (k .i) (k .i-in) in
           let n = member-at (Role.Named 0) l (k .j) (k .j-in) in
-          let p : hasEdge D S (roleId r) (b .x) (b .y) ≡ true = sym (named-pair D S r (b .x) (b .y) (none-at inverse l r q m)) ∙ k .related .0 in
-          let o : hasEdge D S (roleId s) (b .x) (b .y) ≡ false = sym (named-pair D S s (b .x) (b .y) (none-at inverse l s q n)) ∙ k .related .1 in
-          other (roleId r) (roleId s) (b .x) (b .y) p o (λ u. h r s m n u (b .x) (b .y) (edge (roleId r) (b .x) (b .y) (b .x-in) (b .y-in) p)))
+          other r s (b .x) (b .y) (none-at inverse l r q m) (none-at inverse l s q n) (k .related .0) (k .related .1)
+          (λ u. h r s m n u (b .x) (b .y) (at-pair r (b .x) (b .y) (b .x-in) (b .y-in) (k .related .0))))
         where
-          other : (r s x y : ℕ) → hasEdge D S r x y ≡ true → hasEdge D S s x y ≡ false → (eqb r s ≡ false → hasEdge D S s x y ≡ true) → ⊥
-          other r s x y p o h = test (eqb r s) refl
+          other : (r s : Role) (x y : ℕ) → inverse r ≡ false → inverse s ≡ false → hasPair D S r x y ≡ true → hasPair D S s x y ≡ false → (eqb (roleId r) (roleId s) ≡ false → hasPair D S s x y ≡ true) → ⊥
+          other r s x y i j p o h = test (eqb (roleId r) (roleId s)) refl
             where
-              test : (t : Bool) → eqb r s ≡ t → ⊥
-              test true u = let v = eqb-true r s u in both-ways (rw v at p) o
+              test : (t : Bool) → eqb (roleId r) (roleId s) ≡ t → ⊥
+              test true u = both-ways (rw (eqb-true (roleId r) (roleId s) u) at (sym (named-pair D S r x y i) ∙ p)) (sym (named-pair D S s x y j) ∙ o)
               test false u = both-ways (h u) o
 
   domain : (r : Role) (c : ℕ) → Claims D S χ (Axiom.ObjectPropertyDomain r c) (verdict D S (Axiom.ObjectPropertyDomain r c))
@@ -164,18 +164,18 @@ module _ (D : Deck) (W : Sound D) (S : Structure) (χ : Choice) where
   domain (Role.Inverse r) c = tt
   domain (Role.Named r) c =
       let a = Axiom.ObjectPropertyDomain (Role.Named r) c in
-      pairs-case D S (Claims D S χ a) r (λ p. judge D S c (p .from)) (λ p. one (p .from))
+      pairs-case D S (Claims D S χ a) (Role.Named r) (λ p. judge D S c (p .from)) (λ p. one (p .from))
       (λ x y e q. false-from D S χ a x y (at-two x y (e .from-in) (e .to-in) (e .has, right-false (right-at c x) q))) (λ x y t e q. tt)
-      (λ h ws b. both-ways (right-true (right-at c (b .x)) (h (b .x) (b .y) (edge r (b .x) (b .y) (b .x-in) (b .y-in) (b .breaks .0)))) (b .breaks .1))
+      (λ h ws b. both-ways (right-true (right-at c (b .x)) (h (b .x) (b .y) (at-pair (Role.Named r) (b .x) (b .y) (b .x-in) (b .y-in) (b .breaks .0)))) (b .breaks .1))
 
   range-of : (r : Role) (c : ℕ) → Claims D S χ (Axiom.ObjectPropertyRange r c) (verdict D S (Axiom.ObjectPropertyRange r c))
   unfolding verdict any
   range-of (Role.Inverse r) c = tt
   range-of (Role.Named r) c =
       let a = Axiom.ObjectPropertyRange (Role.Named r) c in
-      pairs-case D S (Claims D S χ a) r (λ p. judge D S c (p .to)) (λ p. one (p .to))
+      pairs-case D S (Claims D S χ a) (Role.Named r) (λ p. judge D S c (p .to)) (λ p. one (p .to))
       (λ x y e q. false-to D S χ a x y (at-two x y (e .from-in) (e .to-in) (e .has, right-false (right-at c y) q))) (λ x y t e q. tt)
-      (λ h ws b. both-ways (right-true (right-at c (b .y)) (h (b .x) (b .y) (edge r (b .x) (b .y) (b .x-in) (b .y-in) (b .breaks .0)))) (b .breaks .1))
+      (λ h ws b. both-ways (right-true (right-at c (b .y)) (h (b .x) (b .y) (at-pair (Role.Named r) (b .x) (b .y) (b .x-in) (b .y-in) (b .breaks .0)))) (b .breaks .1))
 
   transitive : (r : Role) → Claims D S χ (Axiom.TransitiveRole r) (verdict D S (Axiom.TransitiveRole r))
   unfolding verdict any

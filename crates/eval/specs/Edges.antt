@@ -31,6 +31,9 @@ edgeIn es q x y = any (map (isEdge q x y) es)
 abbrev pub turned : Role → Edge → Edge
 turned r e = record { role = e .role; from = cond (inverse r) (e .to) (e .from); to = cond (inverse r) (e .from) (e .to) }
 
+abbrev pub edgesBy : Role → List Edge → List Edge
+edgesBy r es = map (turned r) es
+
 -- is the edge's role a sub-role of r?
 abbrev pub under : Deck → ℕ → Edge → Bool
 under D r e = has (roleAt D r .subRoles) (e .role .0)
@@ -45,3 +48,8 @@ goes D r x y e = eqb (e .from .0) x && (eqb (e .to .0) y && under D r e)
 
 unfoldable pub linked : Deck → List Edge → ℕ → ℕ → ℕ → Bool
 linked D es r x y = any (map (goes D r x y) es)
+
+-- does an edge go from x to y, as a role word sees it?
+abbrev pub linkedBy : Deck → List Edge → Role → ℕ → ℕ → Bool
+linkedBy D es (Role.Named r) x y = linked D es r x y
+linkedBy D es (Role.Inverse r) x y = linked D es r y x

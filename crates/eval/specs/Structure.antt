@@ -37,9 +37,16 @@ pub record Pair : Type 0 where
 abbrev pub pair : ℕ → ℕ → Pair
 pair x y = record { from = x; to = y }
 
--- the edges of r "by from then to"
+-- "by from then to", where the successors of each element are given
+abbrev pub pairsBy : Structure → (ℕ → List ℕ) → List Pair
+pairsBy S next = flatMap (λ x. map (pair x) (next x)) (elements S)
+
+-- the pairs of a role word, the edges of a role
+abbrev pub pairsOf : Deck → Structure → Role → List Pair
+pairsOf D S r = pairsBy S (successorsOf D S r)
+
 unfoldable pub pairs : Deck → Structure → ℕ → List Pair
-pairs D S r = flatMap (λ x. map (pair x) (successors D S r x)) (elements S)
+pairs D S r = pairsBy S (successors D S r)
 
 -- is a role word inverse?
 abbrev pub inverse : Role → Bool

@@ -13,7 +13,7 @@ use Rattle.eval.specs.declared.verdict.Witnesses.the-variants.{One, Two,
 use Rattle.eval.specs.declared.verdict.Verdict.{Verdict}
 use Rattle.eval.specs.declared.verdict.Verdict.the-variants.{Holds, Fails, UnhandledAxiom, UnhandledConcept, GuardedRoleHasEdges}
 use Rattle.eval.specs.Standing.{fresh, andNext}
-use Rattle.eval.specs.Structure.{Structure, elements, hasEdge, successors, Pair, pairs, anyInverse}
+use Rattle.eval.specs.Structure.{Structure, elements, hasEdge, hasPair, successors, Pair, pairsOf, pairs, anyInverse}
 use Rattle.eval.specs.Judge.{truth, judge}
 
 -- ---- the words of a verdict
@@ -131,13 +131,13 @@ unlessInverse tag rs v = cond (anyInverse rs) (UnhandledAxiom tag 1) v
 abbrev pub atElements : Structure → (ℕ → Judgement) → Verdict
 atElements S f = scan f one fresh (elements S)
 
--- an outcome at each edge of r
-abbrev pub atPairs : Deck → Structure → ℕ → (Pair → Judgement) → (Pair → Witnesses) → Verdict
-atPairs D S r f w = scan f w fresh (pairs D S r)
+-- an outcome at each pair of a role word
+abbrev pub atPairs : Deck → Structure → Role → (Pair → Judgement) → (Pair → Witnesses) → Verdict
+atPairs D S r f w = scan f w fresh (pairsOf D S r)
 
--- each edge of sub is one of sup
-unfoldable pub within : Deck → Structure → ℕ → ℕ → Verdict
-within D S sub sup = atPairs D S sub (λ p. truth (hasEdge D S sup (p .from) (p .to))) (λ p. two (p .from) (p .to))
+-- each pair of sub is one of sup
+unfoldable pub within : Deck → Structure → Role → Role → Verdict
+within D S sub sup = atPairs D S sub (λ p. truth (hasPair D S sup (p .from) (p .to))) (λ p. two (p .from) (p .to))
 
 -- an edge from x to y, then each edge of b from y on: its end is to be an edge of sup from x
 unfoldable pub onward : Deck → Structure → ℕ → ℕ → ℕ → ℕ → Verdict
@@ -157,9 +157,9 @@ chain D S (a ∷ []) sup = UnhandledAxiom 5 2
 chain D S (a ∷ b ∷ []) sup = links D S a b sup
 chain D S (a ∷ b ∷ c ∷ l) sup = UnhandledAxiom 5 2
 
--- the edges of one member in another; a role is not held against itself
+-- the pairs of one member in another; a role is not held against itself
 abbrev pub across : Deck → Structure → Role → Role → Verdict
-across D S a b = cond (eqb (roleId a) (roleId b)) Holds (within D S (roleId a) (roleId b))
+across D S a b = cond (eqb (roleId a) (roleId b)) Holds (within D S a b)
 
 -- each ordered pair of members
 unfoldable pub equivalent : Deck → Structure → List Role → Verdict
@@ -179,13 +179,13 @@ verdict D S (Axiom.SubClassOf sub sup) = atElements S (λ e. implies (judge D S 
 verdict D S (Axiom.EquivalentClasses l) = atElements S (λ e. allAgree (map (λ c. judge D S c e) l))
 verdict D S (Axiom.DisjointClasses l) = atElements S (λ e. atMostOne (map (λ c. judge D S c e) l))
 verdict D S (Axiom.DisjointUnion k l) = UnhandledAxiom 3 0
-verdict D S (Axiom.SubObjectPropertyOf sub sup) = unlessInverse 4 (sub ∷ sup ∷ []) (within D S (roleId sub) (roleId sup))
+verdict D S (Axiom.SubObjectPropertyOf sub sup) = unlessInverse 4 (sub ∷ sup ∷ []) (within D S sub sup)
 verdict D S (Axiom.SubObjectPropertyChain l sup) = chain D S l sup
 verdict D S (Axiom.EquivalentObjectProperties l) = unlessInverse 6 l (equivalent D S l)
 verdict D S (Axiom.DisjointObjectProperties l) = UnhandledAxiom 7 0
 verdict D S (Axiom.InverseObjectProperties p q) = unlessInverse 8 (p ∷ q ∷ []) (orElse (guarded D S (roleId p)) (guarded D S (roleId q)))
-verdict D S (Axiom.ObjectPropertyDomain r c) = unlessInverse 9 (r ∷ []) (atPairs D S (roleId r) (λ p. judge D S c (p .from)) (λ p. one (p .from)))
-verdict D S (Axiom.ObjectPropertyRange r c) = unlessInverse 10 (r ∷ []) (atPairs D S (roleId r) (λ p. judge D S c (p .to)) (λ p. one (p .to)))
+verdict D S (Axiom.ObjectPropertyDomain r c) = unlessInverse 9 (r ∷ []) (atPairs D S r (λ p. judge D S c (p .from)) (λ p. one (p .from)))
+verdict D S (Axiom.ObjectPropertyRange r c) = unlessInverse 10 (r ∷ []) (atPairs D S r (λ p. judge D S c (p .to)) (λ p. one (p .to)))
 verdict D S (Axiom.TransitiveRole r) = unlessInverse 11 (r ∷ []) (composed D S (roleId r) (roleId r) (roleId r))
 verdict D S (Axiom.SymmetricRole r) = unlessInverse 12 (r ∷ []) (guarded D S (roleId r))
 verdict D S (Axiom.AsymmetricRole r) = UnhandledAxiom 13 0

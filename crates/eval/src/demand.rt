@@ -1,10 +1,10 @@
-// What an axiom asks of each edge of a role.
+// What an axiom asks of each pair of a role word.
 ghost use mathlib.Core.Path.{_≡_};
-ghost use Prim.Native.Nat.{_<_};
+ghost use Prim.Native.Nat.{_*_, _<_};
 ghost use Rattle.deck.specs.Content.{deckOf};
-ghost use Rattle.deck.specs.Deck.{roleCount};
+ghost use Rattle.deck.specs.Deck.{roleCount, roleId, roleOf};
 ghost use Rattle.eval.specs.Demand.{demandAt, blame, DemandFits};
-ghost use Rattle.eval.specs.Edges.{edgesOf, under};
+ghost use Rattle.eval.specs.Edges.{edgesBy, edgesOf, under};
 ghost use Rattle.eval.specs.Lowest.{Among, Seen};
 ghost use Rattle.eval.specs.Lent.{Fits, EdgeFits, structureOf};
 ghost use Rattle.eval.specs.Structure.{pair};
@@ -12,8 +12,8 @@ ghost use Rattle.eval.specs.Verdict.{atPairs};
 use crate::concepts::eval_concept;
 use crate::concepts::truth_of;
 use crate::edges::Edge;
-use crate::edges::edge_at;
-use crate::edges::has_edge;
+use crate::edges::edge_by;
+use crate::edges::has_pair;
 use crate::edges::is_sub_role;
 use crate::judgement::Judgement;
 use crate::lowest::Lowest;
@@ -22,16 +22,16 @@ use crate::verdict::Verdict;
 use crate::verdict::Witnesses;
 use deck::numbers::ConceptId;
 use deck::numbers::Element;
-use deck::numbers::RoleId;
+use deck::numbers::RoleWord;
 
-// The from or the to is in a concept, or the edge is one of another role.
+// The from or the to is in a concept, or the pair is one of another role word.
 pub enum Demand {
     Domain(ConceptId),
     Range(ConceptId),
-    Within(RoleId),
+    Within(RoleWord),
 }
 
-// Does the edge meet the demand?
+// Does the edge, as the role word sees it, meet the demand?
 fn meets(
     deck: &[u8],
     labels: &[u64],
@@ -50,7 +50,7 @@ fn meets(
     match demand {
         Demand::Domain(concept) => eval_concept(deck, labels, edges, shape, concept, from),
         Demand::Range(concept) => eval_concept(deck, labels, edges, shape, concept, to),
-        Demand::Within(role) => truth_of(has_edge(deck, edges, shape.edges, role, from, to)),
+        Demand::Within(role) => truth_of(has_pair(deck, edges, shape.edges, role, from, to)),
     }
 }
 
@@ -65,25 +65,26 @@ fn blame_at(demand: Demand, from: Element, to: Element) -> Witnesses
     }
 }
 
-// The lowest edge of r that fails the demand.
+// The lowest pair of the role word that fails the demand.
 fn lowest_failing(
     deck: &[u8],
     labels: &[u64],
     edges: &[[u32; 3]],
     shape: Shape,
-    r: RoleId,
+    role: RoleWord,
     demand: Demand,
 ) -> Lowest
     requires { ⌜ Fits (now deck) (now labels) (now edges) shape ⌝ }
-    requires { ⌜ r .0 < roleCount (deckOf (now deck)) ⌝ }
+    requires { ⌜ role .0 < 2 * roleCount (deckOf (now deck)) ⌝ }
     requires { ⌜ DemandFits (deckOf (now deck)) demand ⌝ }
-    ensures { λ l. ⌜ Seen (Among (under (deckOf (now (deck .entry))) (r .0)) (edgesOf (now (edges .entry)) (shape .edges))) (λ e. demandAt (deckOf (now (deck .entry))) (structureOf (deckOf (now (deck .entry))) (now (labels .entry)) (now (edges .entry)) shape) demand (pair (e .from .0) (e .to .0))) l ⌝ }
+    ensures { λ l. ⌜ Seen (Among (under (deckOf (now (deck .entry))) (roleId (roleOf (role .0)))) (edgesBy (roleOf (role .0)) (edgesOf (now (edges .entry)) (shape .edges)))) (λ e. demandAt (deckOf (now (deck .entry))) (structureOf (deckOf (now (deck .entry))) (now (labels .entry)) (now (edges .entry)) shape) demand (pair (e .from .0) (e .to .0))) l ⌝ }
 {
     let count = shape.edges as usize;
+    let r = role.role_id();
     let mut lowest = Lowest::new();
     let mut i = 0;
     while i < count {
-        let e = edge_at(edges, i);
+        let e = edge_by(edges, i, role);
         i += 1;
         if !is_sub_role(deck, e, r) {
             continue;
@@ -93,21 +94,21 @@ fn lowest_failing(
     lowest
 }
 
-// Each edge of r meets the demand.
+// Each pair of the role word meets the demand.
 pub fn check_pairs(
     deck: &[u8],
     labels: &[u64],
     edges: &[[u32; 3]],
     shape: Shape,
-    r: RoleId,
+    role: RoleWord,
     demand: Demand,
 ) -> Verdict
     requires { ⌜ Fits (now deck) (now labels) (now edges) shape ⌝ }
-    requires { ⌜ r .0 < roleCount (deckOf (now deck)) ⌝ }
+    requires { ⌜ role .0 < 2 * roleCount (deckOf (now deck)) ⌝ }
     requires { ⌜ DemandFits (deckOf (now deck)) demand ⌝ }
-    ensures { λ v. ⌜ v ≡ atPairs (deckOf (now (deck .entry))) (structureOf (deckOf (now (deck .entry))) (now (labels .entry)) (now (edges .entry)) shape) (r .0) (demandAt (deckOf (now (deck .entry))) (structureOf (deckOf (now (deck .entry))) (now (labels .entry)) (now (edges .entry)) shape) demand) (blame demand) ⌝ }
+    ensures { λ v. ⌜ v ≡ atPairs (deckOf (now (deck .entry))) (structureOf (deckOf (now (deck .entry))) (now (labels .entry)) (now (edges .entry)) shape) (roleOf (role .0)) (demandAt (deckOf (now (deck .entry))) (structureOf (deckOf (now (deck .entry))) (now (labels .entry)) (now (edges .entry)) shape) demand) (blame demand) ⌝ }
 {
-    let lowest = lowest_failing(deck, labels, edges, shape, r, demand);
+    let lowest = lowest_failing(deck, labels, edges, shape, role, demand);
     let found = lowest.found;
     let noted = lowest.noted;
     if found {

@@ -1,11 +1,11 @@
 // The lent list of edges: only edge_at reads a row of it, and only edge_by turns an edge.
 ghost use mathlib.Core.Path.{_≡_};
 ghost use mathlib.Core.List.{[]};
-ghost use Prim.Native.Nat.{_<_, _≤_};
+ghost use Prim.Native.Nat.{_*_, _<_, _≤_};
 ghost use lib.ListN.{length, getD};
 ghost use Rattle.deck.specs.Content.{IsAccepted, deckOf};
 ghost use Rattle.deck.specs.Deck.{roleCount, roleOf};
-ghost use Rattle.eval.specs.Edges.{edgeOf, edgesOf, goes, leaves, linked, turned, under};
+ghost use Rattle.eval.specs.Edges.{edgeOf, edgesOf, goes, leaves, linked, linkedBy, turned, under};
 use deck::numbers::Element;
 use deck::numbers::RoleId;
 use deck::numbers::RoleWord;
@@ -82,6 +82,27 @@ fn goes_by(deck: &[u8], e: Edge, r: RoleId, x: Element, y: Element) -> bool
         }
     }
     false
+}
+
+// Is (x, y) a pair of the role word, by the first `count` edges?
+pub fn has_pair(
+    deck: &[u8],
+    edges: &[[u32; 3]],
+    count: u32,
+    word: RoleWord,
+    x: Element,
+    y: Element,
+) -> bool
+    requires { ⌜ IsAccepted (now deck) ⌝ }
+    requires { ⌜ word .0 < 2 * roleCount (deckOf (now deck)) ⌝ }
+    requires { ⌜ count ≤ length (now edges) ⌝ }
+    ensures { λ b. ⌜ b ≡ linkedBy (deckOf (now (deck .entry))) (edgesOf (now (edges .entry)) count) (roleOf (word .0)) (x .0) (y .0) ⌝ }
+{
+    let r = word.role_id();
+    if word.is_inverse() {
+        return has_edge(deck, edges, count, r, y, x);
+    }
+    has_edge(deck, edges, count, r, x, y)
 }
 
 // Does an edge of r go from x to y, among the first `count`?

@@ -3,7 +3,7 @@ ghost use mathlib.Core.Path.{_≡_};
 ghost use mathlib.Core.List.{map};
 ghost use Prim.Native.Nat.{_*_, _<_};
 ghost use Rattle.deck.specs.Content.{IsAccepted, deckOf};
-ghost use Rattle.deck.specs.Deck.{roleCount, roleOf, Axiom, Role};
+ghost use Rattle.deck.specs.Deck.{roleCount, roleOf, Axiom};
 ghost use Rattle.deck.specs.Reads.{listOf, ListFits};
 ghost use Rattle.eval.specs.Lent.{Fits, structureOf};
 ghost use Rattle.eval.specs.Structure.{anyInverse};
@@ -13,7 +13,6 @@ use crate::demand::check_pairs;
 use crate::shape::Shape;
 use crate::verdict::Verdict;
 use crate::verdict::holds;
-use deck::numbers::RoleId;
 use deck::numbers::RoleWord;
 use deck::rows::Span;
 use deck::rows::item;
@@ -36,45 +35,45 @@ fn any_inverse(deck: &[u8], list: Span) -> bool
     false
 }
 
-// The edges of a in b; a role is not held against itself.
+// The pairs of a in b; a role is not held against itself.
 fn check_across(
     deck: &[u8],
     labels: &[u64],
     edges: &[[u32; 3]],
     shape: Shape,
-    a: RoleId,
-    b: RoleId,
+    a: RoleWord,
+    b: RoleWord,
 ) -> Verdict
     requires { ⌜ Fits (now deck) (now labels) (now edges) shape ⌝ }
-    requires { ⌜ a .0 < roleCount (deckOf (now deck)) ⌝ }
-    requires { ⌜ b .0 < roleCount (deckOf (now deck)) ⌝ }
-    ensures { λ v. ⌜ v ≡ across (deckOf (now (deck .entry))) (structureOf (deckOf (now (deck .entry))) (now (labels .entry)) (now (edges .entry)) shape) (Role.Named (a .0)) (Role.Named (b .0)) ⌝ }
+    requires { ⌜ a .0 < 2 * roleCount (deckOf (now deck)) ⌝ }
+    requires { ⌜ b .0 < 2 * roleCount (deckOf (now deck)) ⌝ }
+    ensures { λ v. ⌜ v ≡ across (deckOf (now (deck .entry))) (structureOf (deckOf (now (deck .entry))) (now (labels .entry)) (now (edges .entry)) shape) (roleOf (a .0)) (roleOf (b .0)) ⌝ }
 {
-    if a.0 == b.0 {
+    if a.role_id().0 == b.role_id().0 {
         return Verdict::Holds;
     }
     check_pairs(deck, labels, edges, shape, a, Demand::Within(b))
 }
 
-// The edges of a in each member of the list.
+// The pairs of a in each member of the list.
 fn check_against(
     deck: &[u8],
     labels: &[u64],
     edges: &[[u32; 3]],
     shape: Shape,
-    a: RoleId,
+    a: RoleWord,
     list: Span,
 ) -> Verdict
     requires { ⌜ Fits (now deck) (now labels) (now edges) shape ⌝ }
-    requires { ⌜ a .0 < roleCount (deckOf (now deck)) ⌝ }
+    requires { ⌜ a .0 < 2 * roleCount (deckOf (now deck)) ⌝ }
     requires { ⌜ ListFits (now deck) (2 * roleCount (deckOf (now deck))) list ⌝ }
-    ensures { λ v. ⌜ v ≡ inTurn (map (across (deckOf (now (deck .entry))) (structureOf (deckOf (now (deck .entry))) (now (labels .entry)) (now (edges .entry)) shape) (Role.Named (a .0))) (map roleOf (listOf (now (deck .entry)) list))) ⌝ }
+    ensures { λ v. ⌜ v ≡ inTurn (map (across (deckOf (now (deck .entry))) (structureOf (deckOf (now (deck .entry))) (now (labels .entry)) (now (edges .entry)) shape) (roleOf (a .0))) (map roleOf (listOf (now (deck .entry)) list))) ⌝ }
 {
     let count = list.count;
     let mut i = 0;
     while i < count {
         let b = RoleWord(item(deck, list, i));
-        let v = check_across(deck, labels, edges, shape, a, b.role_id());
+        let v = check_across(deck, labels, edges, shape, a, b);
         if !holds(v) {
             return v;
         }
@@ -83,7 +82,7 @@ fn check_against(
     Verdict::Holds
 }
 
-// The edges of each member in each other.
+// The pairs of each member in each other.
 fn check_members(
     deck: &[u8],
     labels: &[u64],
@@ -99,7 +98,7 @@ fn check_members(
     let mut i = 0;
     while i < count {
         let a = RoleWord(item(deck, list, i));
-        let v = check_against(deck, labels, edges, shape, a.role_id(), list);
+        let v = check_against(deck, labels, edges, shape, a, list);
         if !holds(v) {
             return v;
         }

@@ -39,14 +39,7 @@ pub fn check_sub_property(
     if sup.is_inverse() {
         return Verdict::UnhandledAxiom(4, 1);
     }
-    check_pairs(
-        deck,
-        labels,
-        edges,
-        shape,
-        sub.role_id(),
-        Demand::Within(sup.role_id()),
-    )
+    check_pairs(deck, labels, edges, shape, sub, Demand::Within(sup))
 }
 
 // The from of each edge is in the concept.
@@ -66,14 +59,7 @@ pub fn check_domain(
     if role.is_inverse() {
         return Verdict::UnhandledAxiom(9, 1);
     }
-    check_pairs(
-        deck,
-        labels,
-        edges,
-        shape,
-        role.role_id(),
-        Demand::Domain(domain),
-    )
+    check_pairs(deck, labels, edges, shape, role, Demand::Domain(domain))
 }
 
 // The to of each edge is in the concept.
@@ -93,14 +79,7 @@ pub fn check_range(
     if role.is_inverse() {
         return Verdict::UnhandledAxiom(10, 1);
     }
-    check_pairs(
-        deck,
-        labels,
-        edges,
-        shape,
-        role.role_id(),
-        Demand::Range(range),
-    )
+    check_pairs(deck, labels, edges, shape, role, Demand::Range(range))
 }
 
 // Two edges, one after the other, make an edge.

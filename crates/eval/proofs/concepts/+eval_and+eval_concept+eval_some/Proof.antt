@@ -19,7 +19,7 @@ use Rattle.eval.specs.Standing.{fresh}
 use Rattle.eval.proofs.Walks.{and-end, and-step, and-stop}
 use Rattle.eval.proofs.Hits.{hits, hits-end, hits-skip, hits-step, hits-stop}
 use Rattle.eval.proofs.EdgeWalks.{noEdge, edges-length}
-use Rattle.eval.proofs.LentLaws.{leavesBy, targetBy, some-walk, edge-led, edge-leaves, edge-led-in, judge-read, fits-read, some-named, some-inverse}
+use Rattle.eval.proofs.LentLaws.{leavesBy, targetBy, some-walk, edge-led, edge-leaves, edge-by-fits, judge-read, fits-read, some-named, some-inverse}
 use borrow.Fn.Kinds.{In}
 use borrow.Fn.PlainCycle.{Measures, is, falls, and}
 use Rattle.eval.proofs.concepts.eval_and.Reads as eval-and
@@ -337,7 +337,7 @@ eval-some-loop-again t c =
 eval-some-eval-concept-requires : (t : ℕ) → eval-some-lts.Need-eval-concept-requires (eval-some-claims t) (eval-some-at t) eval-some.Post eval-some-Inv-loop eval-some-μ-loop
 eval-some-eval-concept-requires t c κs =
     let z = c .before .before .before .before .before .before .before .before .before .before in
-    (omega (arith, z .pre .0), (z .pre .1 .0, (z .pre .1 .1 .1, edge-led-in _ _ _ _ (z .pre .1 .0) (z .args .role .0) (c .before .before .before .before .loop .i) (omega arith) (c .before .before .edge-by .ensures))))
+    (omega (arith, z .pre .0), (z .pre .1 .0, (z .pre .1 .1 .1, edge-by-fits _ _ _ _ (z .pre .1 .0) (z .args .role .0) (c .before .before .before .before .loop .i) (omega arith) (c .before .before .edge-by .ensures) .to)))
 
 eval-some-some-requires : (t : ℕ) → eval-some-lts.Need-some-requires (eval-some-claims t) (eval-some-at t) eval-some.Post eval-some-Inv-loop eval-some-μ-loop
 eval-some-some-requires t c κs = search needs

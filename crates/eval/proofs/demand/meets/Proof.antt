@@ -3,7 +3,7 @@ use denote.Ref.{now}
 use Rattle.deck.specs.Content.{deckOf}
 use Rattle.eval.specs.Demand.{DemandFits}
 use Rattle.eval.specs.Judge.{truth}
-use Rattle.eval.proofs.LinkLaws.{has-edge-is}
+use Rattle.eval.proofs.PairLaws.{meets-within}
 use borrow.Author.Needs.{needs}
 use Rattle.eval.proofs.demand.meets.Statement.{statement}
 use Rattle.eval.proofs.demand.meets.Tie as tie
@@ -11,7 +11,7 @@ use Rattle.eval.proofs.demand.meets.Reads as reads
 use Rattle.eval.proofs.demand.meets.Lts as lts
 use Rattle.eval.proofs.concepts.eval_concept.Reads as eval-concept-reads
 use Rattle.eval.proofs.concepts.truth_of.Reads as truth-of-reads
-use Rattle.eval.proofs.edges.has_edge.Reads as has-edge-reads
+use Rattle.eval.proofs.edges.has_pair.Reads as has-pair-reads
 
 enum-known-demand : tie.Need-enum-known-demand
 enum-known-demand c = search needs
@@ -28,8 +28,8 @@ eval-concept-requires-2 c κs = let z = c .before .before .before .before .befor
 enum-known-demand-3 : tie.Need-enum-known-demand-3
 enum-known-demand-3 c = search needs
 
-has-edge-requires : tie.Need-has-edge-requires
-has-edge-requires c κs = let z = c .before .before .before .before .before .before .before in (z .pre .0 .accepted, (rw (c .before .demand3 .given .1) at (z .pre .1 .0), z .pre .0 .count))
+has-pair-requires : tie.Need-has-pair-requires
+has-pair-requires c κs = let z = c .before .before .before .before .before .before .before in (z .pre .0 .accepted, (rw (c .before .demand3 .given .1) at (z .pre .1 .0), z .pre .0 .count))
 
 truth-of-requires : tie.Need-truth-of-requires
 truth-of-requires c κs = search needs
@@ -43,7 +43,7 @@ returns-2 c = rw (c .before .before .demand2 .given .1) (c .eval-concept2 .ensur
 returns-3 : tie.Need-returns-3
 returns-3 c =
     let a = c .before .before .before .before .before .before .before .before .before .args in
-    rw (c .before .before .before .demand3 .given .1) (c .truth-of .ensures ∙ ap truth (c .before .has-edge .ensures ∙ sym (has-edge-is _ (now (a .labels)) (now (a .edges)) (a .shape) _ _ _)))
+    meets-within (deckOf (now (a .deck))) (now (a .labels)) (now (a .edges)) (a .shape) (a .e .from .0) (a .e .to .0) _ (c .before .before .before .demand3 .given .1) (c .truth-of .ensures) (c .before .has-pair .ensures)
 
 pub meets-spec : {M : Type 1} → statement M
 meets-spec =
@@ -54,7 +54,7 @@ meets-spec =
     enum-known-demand-2
     eval-concept-requires-2
     enum-known-demand-3
-    has-edge-requires
+    has-pair-requires
     truth-of-requires
     returns
     returns-2

@@ -14,12 +14,11 @@ use Rattle.eval.specs.Lent.{structureOf}
 use Rattle.eval.specs.declared.verdict.Verdict.{Verdict}
 use Rattle.eval.specs.Verdict.{across, inTurn, equivalent}
 use Rattle.eval.proofs.Walks.{turn-end, turn-step, turn-stop}
-use Rattle.eval.proofs.RoleLaws.{word-at, holds-is, not-holds, word-across}
+use Rattle.eval.proofs.RoleLaws.{word-at, holds-is, not-holds}
 use Rattle.eval.proofs.equivalent.check_members.Statement.{statement}
 use Rattle.eval.proofs.equivalent.check_members.Tie as tie
 use Rattle.eval.proofs.equivalent.check_members.Reads as reads
 use Rattle.eval.proofs.equivalent.check_members.Lts as lts
-use Rattle.deck.proofs.numbers.RoleWord.role_id.Reads as role-id-reads
 use Rattle.deck.proofs.rows.item.Reads as item-reads
 use Rattle.eval.proofs.equivalent.check_against.Reads as check-against-reads
 use Rattle.eval.proofs.verdict.holds.Reads as holds-reads
@@ -39,51 +38,48 @@ loop-holds c = (omega arith, refl)
 item-requires : tie.Need-item-requires Inv-loop μ-loop
 item-requires c κs = let z = c .before .before .before .before in (z .pre .0 .accepted, (z .pre .1 .within, omega arith))
 
-role-id-requires : tie.Need-role-id-requires Inv-loop μ-loop
-role-id-requires c κs = search needs
-
 check-against-requires : tie.Need-check-against-requires Inv-loop μ-loop
 check-against-requires c κs =
-    let z = c .before .before .before .before .before .before in
+    let z = c .before .before .before .before .before in
     let l = z .args .list in
     let h = list-length (now (z .args .deck)) (l .start) (l .count) in
-    (z .pre .0, (omega (arith, c .role-id .ensures, c .before .item .ensures, z .pre .1 .below (c .before .before .before .loop .i) (omega (arith, h))), z .pre .1))
+    (z .pre .0, (omega (arith, c .item .ensures, z .pre .1 .below (c .before .before .loop .i) (omega (arith, h))), z .pre .1))
 
 holds-requires : tie.Need-holds-requires Inv-loop μ-loop
 holds-requires c κs = search needs
 
 returns : tie.Need-returns Inv-loop μ-loop
 returns c =
-    let z = c .before .before .before .before .before .before .before .before .before in
+    let z = c .before .before .before .before .before .before .before .before in
     let l = z .args .list in
     let ws = listOf (now (z .args .deck)) l in
     let h = list-length (now (z .args .deck)) (l .start) (l .count) in
     let m = length-map ws roleOf in
-    let w = c .before .before .before .before .before .before .loop in
+    let w = c .before .before .before .before .before .loop in
     let D = deckOf (now (z .args .deck)) in
     let S = structureOf D (now (z .args .labels)) (now (z .args .edges)) (z .args .shape) in
     let g : Role → Verdict = λ a. inTurn (map (across D S a) (map roleOf ws)) in
-    let v = rw (c .before .before .before .role-id .ensures, c .before .before .before .before .item .ensures) at (c .before .before .check-against .ensures) ∙ word-across D S (getD ws (w .i) 0) (map roleOf ws) ∙ ap g (sym (word-at ws (w .i))) in
+    let v = rw (c .before .before .before .item .ensures) at (c .before .before .check-against .ensures) ∙ ap g (sym (word-at ws (w .i))) in
     v ∙ turn-stop g (Role.Named 0) (map roleOf ws) (w .i) (omega (arith, h, m)) (λ e. not-holds _ (sym (c .before .holds .ensures) ∙ not-true _ (c .if1 .taken)) (v ∙ e)) ∙ sym (w .inv .1)
 
 add-i : tie.Need-add-i Inv-loop μ-loop
-add-i c = omega (arith, c .before .before .before .before .before .before .before .before .before .good)
+add-i c = omega (arith, c .before .before .before .before .before .before .before .before .good)
 
 loop-less : tie.Need-loop-less Inv-loop μ-loop
 loop-less c = omega arith
 
 loop-again : tie.Need-loop-again Inv-loop μ-loop
 loop-again c =
-    let z = c .before .before .before .before .before .before .before .before .before in
+    let z = c .before .before .before .before .before .before .before .before in
     let l = z .args .list in
     let ws = listOf (now (z .args .deck)) l in
     let h = list-length (now (z .args .deck)) (l .start) (l .count) in
     let m = length-map ws roleOf in
-    let w = c .before .before .before .before .before .before .loop in
+    let w = c .before .before .before .before .before .loop in
     let D = deckOf (now (z .args .deck)) in
     let S = structureOf D (now (z .args .labels)) (now (z .args .edges)) (z .args .shape) in
     let g : Role → Verdict = λ a. inTurn (map (across D S a) (map roleOf ws)) in
-    let v = rw (c .before .before .before .role-id .ensures, c .before .before .before .before .item .ensures) at (c .before .before .check-against .ensures) ∙ word-across D S (getD ws (w .i) 0) (map roleOf ws) ∙ ap g (sym (word-at ws (w .i))) in
+    let v = rw (c .before .before .before .item .ensures) at (c .before .before .check-against .ensures) ∙ ap g (sym (word-at ws (w .i))) in
     (omega arith, w .inv .1 ∙ turn-step g (Role.Named 0) (map roleOf ws) (w .i) (omega (arith, h, m)) (sym v ∙ holds-is _ (sym (c .before .holds .ensures) ∙ not-false _ (c .if1 .left))))
 
 returns-2 : tie.Need-returns-2 Inv-loop μ-loop
@@ -102,7 +98,6 @@ check-members-spec =
     μ-loop
     loop-holds
     item-requires
-    role-id-requires
     check-against-requires
     holds-requires
     returns

@@ -1,19 +1,13 @@
-use Rattle.eval.proofs.RoleLaws.{inverse-one, named-one}
-use mathlib.Core.Path.{_≡_, sym, ap, _∙_}
-use denote.Ref.{now}
-use native.Mathlib.Omega.{arith}
-use Rattle.deck.specs.Content.{deckOf}
-use Rattle.eval.specs.Lent.{structureOf}
-use Rattle.eval.specs.Demand.{demandAt, blame}
-use Rattle.eval.specs.declared.demand.Demand.the-variants.{Domain, Range}
-use Rattle.eval.specs.Verdict.{verdict, atPairs, composed, guarded}
+use mathlib.Core.Path.{sym, _∙_}
+use mathlib.Core.List.{[]}
+use Rattle.eval.specs.Verdict.{verdict}
+use Rattle.eval.proofs.RoleLaws.{inverse-first, named-last}
 use borrow.Author.Needs.{needs}
 use Rattle.eval.proofs.roles.check_range.Statement.{statement}
 use Rattle.eval.proofs.roles.check_range.Tie as tie
 use Rattle.eval.proofs.roles.check_range.Reads as reads
 use Rattle.eval.proofs.roles.check_range.Lts as lts
 use Rattle.deck.proofs.numbers.RoleWord.is_inverse.Reads as is-inverse-reads
-use Rattle.deck.proofs.numbers.RoleWord.role_id.Reads as role-id-reads
 use Rattle.eval.proofs.demand.check_pairs.Reads as check-pairs-reads
 
 is-inverse-requires : tie.Need-is-inverse-requires
@@ -21,14 +15,7 @@ is-inverse-requires c κs = search needs
 
 returns : tie.Need-returns
 unfolding verdict
-returns c =
-    let z = c .before .before .before .before in
-    let D = deckOf (now (z .args .deck)) in
-    let S = structureOf D (now (z .args .labels)) (now (z .args .edges)) (z .args .shape) in
-    inverse-one 10 (z .args .role .0) (λ r. atPairs D S r (demandAt D S (Range (z .args .range))) (blame (Range (z .args .range)))) (sym (c .before .is-inverse .ensures) ∙ c .if1 .taken)
-
-role-id-requires : tie.Need-role-id-requires
-role-id-requires c κs = search needs
+returns c = inverse-first 10 (c .before .before .before .before .args .role .0) [] _ (sym (c .before .is-inverse .ensures) ∙ c .if1 .taken)
 
 check-pairs-requires : tie.Need-check-pairs-requires
 check-pairs-requires c κs = search needs
@@ -36,12 +23,7 @@ check-pairs-requires c κs = search needs
 returns-2 : tie.Need-returns-2
 unfolding verdict
 returns-2 c =
-    let z = c .before .before .before .before .before .before in
-    let D = deckOf (now (z .args .deck)) in
-    let S = structureOf D (now (z .args .labels)) (now (z .args .edges)) (z .args .shape) in
-    rw (c .before .role-id .ensures) at (c .check-pairs .ensures) ∙ named-one 10 (z .args .role .0) (λ r. atPairs D S r (demandAt D S (Range (z .args .range))) (blame (Range (z .args .range)))) (sym (c .before .before .before .is-inverse .ensures) ∙ c .before .before .if1 .left)
+    c .check-pairs .ensures ∙ named-last 10 (c .before .before .before .before .before .args .role .0) _ (sym (c .before .before .is-inverse .ensures) ∙ c .before .if1 .left)
 
 pub check-range-spec : {M : Type 1} → statement M
-check-range-spec =
-    tie.close
-    (tie.spec is-inverse-requires returns role-id-requires check-pairs-requires returns-2)
+check-range-spec = tie.close (tie.spec is-inverse-requires returns check-pairs-requires returns-2)
