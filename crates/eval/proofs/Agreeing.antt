@@ -25,7 +25,7 @@ use Rattle.eval.specs.Lists.{range, keep, every, any}
 use Rattle.eval.specs.Structure.{Structure, elements, hasEdge, hasPair, successorsOf, successors, pair, pairsBy, pairsOf, pairs, Pair, inverse, anyInverse}
 use Rattle.eval.specs.Judge.{judge, judgeOf, truth, someFrom}
 use Rattle.eval.specs.Verdict.{verdict, scan, implies, allAgree, atMostOne, atPairs, within, onward, composed, across, equivalent, inTurn, one, two, three}
-use Rattle.eval.specs.Truth.{Choice, ext, extOf, AtOne, AtTwo, AtThree, AtChain, Apart, In, Out, inOne, Break, True, FalseAt}
+use Rattle.eval.specs.Truth.{Choice, ext, extOf, AtOne, AtTwo, AtThree, AtChain, Apart, In, inOne, Break, True, FalseAt}
 use Rattle.eval.proofs.Falling.{falling}
 use Rattle.eval.proofs.ListLaws.{map-same, in-keep}
 use Rattle.eval.proofs.Steps.{fits, each-below, and-same, judge-at, ext-at}

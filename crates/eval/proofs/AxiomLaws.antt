@@ -1,6 +1,6 @@
 -- An axiom that was read, by its tag: what its fields are, and what its verdict says.
 use Prim.Native.Nat.{ℕ, _+_, _-_, _<_, _≤_}
-use mathlib.Core.Path.{_≡_, refl, sym, ap, _∙_}
+use mathlib.Core.Path.{_≡_, refl, ap, _∙_}
 use mathlib.Core.List.{List}
 use native.Mathlib.Omega.{arith}
 use Rattle.deck.specs.declared.axioms.AxiomRecord.{AxiomRecord}

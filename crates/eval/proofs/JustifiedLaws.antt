@@ -1,5 +1,4 @@
 -- Every verdict is justified: `justified`, from soundness and exactness.
-use mathlib.Core.Bool.{true}
 use mathlib.Core.Path.{_≡_, refl}
 use mathlib.Core.Logic.{_⊎_, inl, inr}
 use Rattle.deck.specs.Deck.{Deck, Axiom}

@@ -6,8 +6,8 @@ use mathlib.Core.List.{List, [], List·Memᴰ as Member}
 use native.Mathlib.Omega.{arith}
 use borrow.Author.Tests.{eqb-true, eq-eqb}
 use lib.Dec.{eqb}
-use lib.ListN.{length, getD}
-use Rattle.deck.specs.Deck.{Deck, Role, roleOf, roleId, Concept}
+use lib.ListN.{getD}
+use Rattle.deck.specs.Deck.{Deck, Role, roleOf, roleId}
 use Rattle.deck.specs.Numbers.{inverseWord}
 use Rattle.deck.specs.declared.concepts.ConceptExpr.{ConceptExpr}
 use Rattle.deck.specs.Reads.{ConceptRead, exprOf, ExprFits}

@@ -1,7 +1,7 @@
 -- The edges of a role in a lent structure: sub-roles' buckets, or one walk over the list with a test of the role.
 use Prim.Native.Nat.{ℕ, _/_}
 use mathlib.Core.Bool.{Bool, true, false, _&&_, _||_}
-use mathlib.Core.Path.{_≡_, refl, sym, ap, _∙_}
+use mathlib.Core.Path.{_≡_, refl, sym, ap}
 use mathlib.Core.Logic.{⊎-elim}
 use mathlib.Core.List.{List, [], _∷_, map, List·Memᴰ as Member, List·Memᴰ·head as here, List·Memᴰ·tail as there, List·Memᴰ·not-nil as nothing-in, List·Memᴰ·cases-cons as cases-cons}
 use native.Mathlib.Omega.{arith}
@@ -14,7 +14,7 @@ use Rattle.eval.specs.declared.edges.Edge.{Edge}
 use Rattle.eval.specs.declared.shape.Shape.{Shape}
 use Rattle.eval.specs.Lists.{any}
 use Rattle.eval.specs.Structure.{hasEdge, hasPair}
-use Rattle.eval.specs.Edges.{edgesOf, isEdge, edgeIn, under, goes, linked, linkedBy}
+use Rattle.eval.specs.Edges.{edgesOf, isEdge, edgeIn, goes, linked, linkedBy}
 use Rattle.eval.specs.Lent.{structureOf}
 use Rattle.eval.proofs.ListLaws.{any-at, any-of}
 

@@ -5,7 +5,7 @@ use Prim.Native.Nat.{ℕ, _<_}
 use mathlib.Core.Bool.{Bool, true, false, _&&_, _||_}
 use mathlib.Core.Path.{_≡_, refl, sym, ap, _∙_}
 use mathlib.Core.Logic.{_⊎_, ⊎-elim}
-use mathlib.Core.List.{List, map, List·Memᴰ as Member}
+use mathlib.Core.List.{List, map}
 use Rattle.eval.specs.Lists.{any}
 use Rattle.eval.proofs.ListLaws.{any-of, none-at, map-in, in-map}
 use borrow.Author.Tests.{lt-ltb, eq-eqb, eqb-true}
@@ -35,8 +35,8 @@ use Rattle.eval.specs.Verdict.{atPairs, three, onward, composed, guarded
 use Rattle.eval.proofs.Clash.{clash, both-ways}
 use Rattle.eval.proofs.EdgeLaws as edge-laws
 use Rattle.eval.proofs.LinkLaws.{both, has-pair-is}
-use Rattle.eval.proofs.LentLaws.{edge-fits, edge-has, Listed, has-listed, seen-at, pair-listed}
-use Rattle.eval.proofs.Order.{Below, pairs-least, pairs-opens, pairs-holds, onward-least, onward-holds, composed-first, composed-all, guarded-some, guarded-none}
+use Rattle.eval.proofs.LentLaws.{edge-fits, edge-has, has-listed, seen-at, pair-listed}
+use Rattle.eval.proofs.Order.{pairs-least, pairs-opens, pairs-holds, onward-least, onward-holds, composed-first, composed-all, guarded-some, guarded-none}
 use Rattle.eval.proofs.Tags.{openTag, open-tag}
 
 pub before-below : (x y u v : ℕ) → (x < u) ⊎ ((x ≡ u) × (y < v)) → before x y u v ≡ true

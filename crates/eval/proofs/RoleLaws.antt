@@ -1,18 +1,18 @@
 -- Role words in axioms: one test after another for an inverse word, and lists of words.
-use Prim.Native.Nat.{ℕ, zero, suc, _+_, _/_, _<_, _≤_}
-use mathlib.Core.Bool.{Bool, true, false, cond, _||_}
-use mathlib.Core.Path.{_≡_, refl, sym, ap, _∙_, fun-ext}
+use Prim.Native.Nat.{ℕ, _/_}
+use mathlib.Core.Bool.{Bool, true, false, cond}
+use mathlib.Core.Path.{_≡_, refl, sym, ap, _∙_}
 use mathlib.Core.List.{List, [], _∷_, map}
 use native.Mathlib.Omega.{arith}
-use lib.ListN.{length, getD, length-map, List·getD-map}
+use lib.ListN.{length, getD, List·getD-map}
 use Rattle.deck.specs.Numbers.{inverseWord, roleNumber}
 use Rattle.deck.specs.Deck.{Deck, Role, roleOf, roleId}
 use Rattle.deck.proofs.TagLaws.{role-id}
 use Rattle.eval.specs.declared.verdict.Verdict.{Verdict}
 use Rattle.eval.specs.declared.verdict.Verdict.the-variants.{Holds, Fails, UnhandledAxiom, UnhandledConcept, GuardedRoleHasEdges}
 use Rattle.eval.specs.Lists.{any}
-use Rattle.eval.specs.Structure.{Structure, inverse, anyInverse}
-use Rattle.eval.specs.Verdict.{unlessInverse, isHolds, orElse, chain, links, across, inTurn}
+use Rattle.eval.specs.Structure.{Structure, inverse}
+use Rattle.eval.specs.Verdict.{unlessInverse, isHolds, orElse, chain, links}
 use Rattle.eval.proofs.Clash.{clash}
 
 pub inverse-word : (w : ℕ) → inverse (roleOf w) ≡ inverseWord w

@@ -1,16 +1,16 @@
 -- Going through edges one by one: what was seen of the first i, and what it says of a check over all edges of a role.
 --     seen-start, seen-skip, seen-next, seen-end     a loop over the list
-use Prim.Native.Nat.{ℕ, zero, suc, _+_, _<_, _≤_}
+use Prim.Native.Nat.{ℕ, _+_, _<_, _≤_}
 use mathlib.Core.Bool.{Bool, true, false, cond, not, _&&_, _||_}
 use mathlib.Core.Path.{_≡_, refl, sym, ap, _∙_}
 use mathlib.Core.Logic.{_⊎_, ⊎-elim, inl, inr}
-use mathlib.Core.List.{List, [], _∷_, _++_, List·Memᴰ as Member, List·Memᴰ·head as here, List·Memᴰ·not-nil as nothing-in, List·Memᴰ·append-cases as append-cases, List·Memᴰ·eq-of-singleton as eq-of-singleton, Memᴰ·append-left as append-left, Memᴰ·append-right as append-right}
+use mathlib.Core.List.{List, [], _∷_, _++_, List·Memᴰ·head as here, List·Memᴰ·not-nil as nothing-in, List·Memᴰ·append-cases as append-cases, List·Memᴰ·eq-of-singleton as eq-of-singleton, Memᴰ·append-left as append-left, Memᴰ·append-right as append-right}
 use native.Mathlib.Omega.{arith}
 use native.Mathlib.Numerals.{add-one}
 use lib.ListN.{length, getD, take}
 use lib.Seq.{take-suc, take-all}
 use lib.Dec.{eqb, ltb}
-use borrow.Author.Tests.{ltb-true, ltb-false, eqb-true, eqb-false, le-ltb, lt-ltb, ne-eqb, eq-eqb}
+use borrow.Author.Tests.{ltb-true, ltb-false, eqb-true, eqb-false, le-ltb, ne-eqb, eq-eqb}
 use Rattle.eval.specs.declared.edges.Edge.{Edge}
 use Rattle.eval.specs.declared.judgement.Judgement.{Judgement}
 use Rattle.eval.specs.declared.judgement.Judgement.the-variants.{False, True, Unresolved}

@@ -8,7 +8,6 @@
 use Prim.Native.Nat.{ℕ, _<_}
 use mathlib.Core.Bool.{Bool, true, false, cond}
 use mathlib.Core.Path.{_≡_, refl, sym, ap, _∙_, fun-ext}
-use mathlib.Core.List.{map}
 use Rattle.deck.specs.Deck.{Deck, Concept, Axiom, conceptAt, axiomCount, axiomAt}
 use Rattle.deck.specs.Sound.{Sound, ConceptFits, countsIn}
 use Rattle.eval.specs.declared.verdict.Witnesses.{Witnesses}

@@ -1,5 +1,5 @@
 -- What an axiom asks of each pair of a role word: that its from or its to is in a concept, or that it is a pair of another role word.
-use Prim.Native.Nat.{ℕ, _*_, _<_}
+use Prim.Native.Nat.{_*_, _<_}
 use Rattle.deck.specs.Deck.{Deck, conceptCount, roleCount, roleOf}
 use Rattle.eval.specs.declared.demand.Demand.{Demand}
 use Rattle.eval.specs.declared.demand.Demand.the-variants.{Domain, Range, Within}

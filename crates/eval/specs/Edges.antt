@@ -1,5 +1,5 @@
 -- The lent list of edges: "In the port edges lie in one lent list of records, oldest first (role, from, to); a bucket is its role's part."
-use Prim.Native.Nat.{ℕ, _+_, _*_}
+use Prim.Native.Nat.{ℕ}
 use mathlib.Core.Bool.{Bool, cond, _&&_}
 use mathlib.Core.List.{List, [], _∷_, map}
 use lib.ListN.{getD, take}

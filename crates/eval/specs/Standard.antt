@@ -2,7 +2,7 @@
 -- included. They are one choice, so what holds under every choice holds in the standard's sense.
 use Prim.Native.Nat.{ℕ, _<_}
 use mathlib.Core.Bool.{Bool, true, false, not, _&&_, _||_}
-use mathlib.Core.List.{List, map}
+use mathlib.Core.List.{map}
 use lib.Dec.{eqb, leb}
 use lib.ListN.{length}
 use Rattle.deck.specs.Deck.{Deck, Role, Concept, Axiom, conceptAt, axiomCount, axiomAt}

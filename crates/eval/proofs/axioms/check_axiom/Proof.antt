@@ -1,6 +1,6 @@
 use denote.Ref.{now}
 use Rattle.deck.proofs.MatchLaws.{at-least}
-use mathlib.Core.Path.{_≡_, refl}
+use mathlib.Core.Path.{refl}
 use native.Mathlib.Omega.{arith}
 use Rattle.deck.specs.Content.{axiomOf, makeAxiom}
 use Rattle.eval.specs.Verdict.{verdict}

@@ -1,4 +1,4 @@
-use mathlib.Core.Path.{_≡_, _∙_}
+use mathlib.Core.Path.{_∙_}
 use Rattle.eval.proofs.PairLaws.{composed-fail, composed-hold}
 use borrow.Author.Needs.{needs}
 use Rattle.eval.proofs.chains.check_composed.Statement.{statement}

@@ -1,15 +1,14 @@
 use Prim.Native.Nat.{_≤_, _<_, _-_}
-use mathlib.Core.Path.{_≡_, sym, ap, _∙_}
+use mathlib.Core.Path.{sym, ap, _∙_}
 use denote.Ref.{now}
 use native.Mathlib.Omega.{arith}
 use borrow.Author.Needs.{needs}
 use borrow.Author.Tests.{not-true, not-false}
 use Rattle.deck.specs.Content.{deckOf}
-use Rattle.eval.specs.Edges.{edgesOf, under, leaves}
+use Rattle.eval.specs.Edges.{edgesOf, leaves}
 use Rattle.eval.specs.Judge.{truth}
 use Rattle.eval.specs.Lent.{structureOf}
 use Rattle.eval.specs.Structure.{hasEdge}
-use Rattle.eval.specs.Verdict.{isHolds, onward}
 use Rattle.eval.proofs.EdgeWalks.{noEdge, edges-length, edges-at}
 use Rattle.eval.proofs.LinkLaws.{has-edge-is}
 use Rattle.eval.proofs.SeenLaws.{SeenTo, seen-start, seen-skip, seen-next, seen-end}

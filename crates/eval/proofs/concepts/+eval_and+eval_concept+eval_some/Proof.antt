@@ -5,8 +5,8 @@ use native.Mathlib.Omega.{arith}
 use borrow.Author.Needs.{needs}
 use borrow.Author.Tests.{not-true, not-false}
 use denote.Ref.{now}
-use mathlib.Core.Path.{_≡_, refl, sym, ap, _∙_}
-use lib.ListN.{length, getD, drop}
+use mathlib.Core.Path.{_≡_, sym, ap, _∙_}
+use lib.ListN.{drop}
 use Rattle.deck.specs.Deck.{roleOf}
 use Rattle.deck.specs.Content.{deckOf}
 use Rattle.deck.specs.Reads.{listOf}

@@ -1,12 +1,12 @@
-use mathlib.Core.Path.{_≡_, sym, ap, _∙_}
+use mathlib.Core.Path.{ap, _∙_}
 use denote.Ref.{now}
 use Rattle.deck.specs.Content.{deckOf}
 use Rattle.deck.specs.Deck.{roleOf}
 use Rattle.deck.proofs.SoundLaws.{sound}
-use Rattle.eval.specs.Demand.{demandAt, blame}
+use Rattle.eval.specs.Demand.{blame}
 use Rattle.eval.specs.Lent.{structureOf}
 use Rattle.eval.specs.declared.verdict.Verdict.the-variants.{Fails}
-use Rattle.eval.proofs.PairLaws.{pairs-fail, pairs-open, pairs-hold, steady, demandTag}
+use Rattle.eval.proofs.PairLaws.{pairs-fail, pairs-open, pairs-hold, steady}
 use borrow.Author.Needs.{needs}
 use Rattle.eval.proofs.demand.check_pairs.Statement.{statement}
 use Rattle.eval.proofs.demand.check_pairs.Tie as tie

@@ -1,8 +1,6 @@
-use mathlib.Core.Path.{_≡_, sym, ap, _∙_}
+use mathlib.Core.Path.{ap}
 use denote.Ref.{now}
 use Rattle.deck.specs.Content.{deckOf}
-use Rattle.eval.specs.Demand.{DemandFits}
-use Rattle.eval.specs.Judge.{truth}
 use Rattle.eval.proofs.PairLaws.{meets-within}
 use borrow.Author.Needs.{needs}
 use Rattle.eval.proofs.demand.meets.Statement.{statement}

@@ -1,16 +1,13 @@
 use mathlib.Core.Path.{_≡_, refl, sym, ap, _∙_}
 use mathlib.Core.List.{map}
-use Prim.Native.Nat.{_≤_, _-_, _/_}
+use Prim.Native.Nat.{_≤_, _-_}
 use denote.Ref.{now}
 use native.Mathlib.Omega.{arith}
 use borrow.Author.Needs.{needs}
-use borrow.Author.Tests.{not-true, not-false, eq-eqb, ne-eqb}
-use lib.ListN.{length, getD, drop, length-map}
-use Rattle.deck.specs.Content.{deckOf}
+use lib.ListN.{getD, drop, length-map}
 use Rattle.deck.specs.Deck.{Role, roleOf}
 use Rattle.deck.specs.Reads.{listOf}
 use Rattle.deck.proofs.TableLaws.{list-length}
-use Rattle.eval.specs.Lent.{structureOf}
 use Rattle.eval.specs.Lists.{any}
 use Rattle.eval.specs.Structure.{inverse, anyInverse}
 use Rattle.eval.proofs.EdgeWalks.{any-hit, any-step, any-end}

@@ -1,4 +1,4 @@
-use mathlib.Core.Path.{_≡_, sym, _∙_}
+use mathlib.Core.Path.{sym, _∙_}
 use Rattle.eval.specs.Verdict.{verdict}
 use borrow.Author.Needs.{needs}
 use Rattle.eval.proofs.equivalent.check_equivalent_properties.Statement.{statement}

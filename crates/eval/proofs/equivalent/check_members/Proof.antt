@@ -1,11 +1,11 @@
 use mathlib.Core.Path.{_≡_, refl, sym, ap, _∙_}
 use mathlib.Core.List.{map}
-use Prim.Native.Nat.{_≤_, _-_, _/_}
+use Prim.Native.Nat.{_≤_, _-_}
 use denote.Ref.{now}
 use native.Mathlib.Omega.{arith}
 use borrow.Author.Needs.{needs}
-use borrow.Author.Tests.{not-true, not-false, eq-eqb, ne-eqb}
-use lib.ListN.{length, getD, drop, length-map}
+use borrow.Author.Tests.{not-true, not-false}
+use lib.ListN.{drop, length-map}
 use Rattle.deck.specs.Content.{deckOf}
 use Rattle.deck.specs.Deck.{Role, roleOf}
 use Rattle.deck.specs.Reads.{listOf}

@@ -1,4 +1,4 @@
-use mathlib.Core.Path.{_≡_, sym, _∙_}
+use mathlib.Core.Path.{sym, _∙_}
 use Rattle.eval.proofs.PairLaws.{guarded-hit, guarded-free}
 use borrow.Author.Needs.{needs}
 use Rattle.eval.proofs.guarded.check_guarded.Statement.{statement}

@@ -1,4 +1,4 @@
-use borrow.Author.Tests.{eq-eqb, ne-eqb, lt-ltb, le-ltb, not-true, not-false}
+use borrow.Author.Tests.{eq-eqb, ne-eqb, lt-ltb, le-ltb}
 use Rattle.eval.proofs.lowest.is_before.Statement.{statement}
 use Rattle.eval.proofs.lowest.is_before.Tie as tie
 use Rattle.eval.proofs.lowest.is_before.Reads as reads

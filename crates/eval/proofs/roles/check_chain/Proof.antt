@@ -1,8 +1,6 @@
-use mathlib.Core.Path.{_≡_, sym, ap, _∙_}
+use mathlib.Core.Path.{_∙_}
 use denote.Ref.{now}
 use native.Mathlib.Omega.{arith}
-use Rattle.deck.specs.Content.{deckOf}
-use Rattle.eval.specs.Lent.{structureOf}
 use Rattle.eval.specs.Verdict.{verdict}
 use Rattle.deck.specs.Reads.{listOf}
 use Rattle.deck.specs.Deck.{roleOf}

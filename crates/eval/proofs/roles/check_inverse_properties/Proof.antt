@@ -1,8 +1,7 @@
 use Prim.Native.Nat.{_/_}
 use Rattle.eval.proofs.RoleLaws.{inverse-two, inverse-two-2, named-two, else-first, else-second}
-use mathlib.Core.Path.{_≡_, sym, ap, _∙_}
+use mathlib.Core.Path.{sym, ap, _∙_}
 use denote.Ref.{now}
-use native.Mathlib.Omega.{arith}
 use Rattle.deck.specs.Content.{deckOf}
 use Rattle.eval.specs.Lent.{structureOf}
 use borrow.Author.Tests.{not-true, not-false}

@@ -1,5 +1,5 @@
 use Rattle.eval.proofs.RoleLaws.{inverse-three, inverse-three-2, inverse-three-3, named-three}
-use mathlib.Core.Path.{_≡_, sym, ap, _∙_}
+use mathlib.Core.Path.{sym, ap, _∙_}
 use denote.Ref.{now}
 use native.Mathlib.Omega.{arith}
 use Rattle.deck.specs.Content.{deckOf}

@@ -1,10 +1,10 @@
 use Rattle.eval.proofs.RoleLaws.{inverse-one, named-one}
-use mathlib.Core.Path.{_≡_, sym, ap, _∙_}
+use mathlib.Core.Path.{sym, ap, _∙_}
 use denote.Ref.{now}
 use native.Mathlib.Omega.{arith}
 use Rattle.deck.specs.Content.{deckOf}
 use Rattle.eval.specs.Lent.{structureOf}
-use Rattle.eval.specs.Verdict.{verdict, atPairs, composed, guarded}
+use Rattle.eval.specs.Verdict.{verdict, composed}
 use borrow.Author.Needs.{needs}
 use Rattle.eval.proofs.roles.check_transitive.Statement.{statement}
 use Rattle.eval.proofs.roles.check_transitive.Tie as tie

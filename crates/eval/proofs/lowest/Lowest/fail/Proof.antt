@@ -1,5 +1,5 @@
-use borrow.Author.Tests.{eq-eqb, ne-eqb, lt-ltb, le-ltb, not-true, not-false}
-use mathlib.Core.Path.{_≡_, sym, _∙_}
+use borrow.Author.Tests.{not-true, not-false}
+use mathlib.Core.Path.{sym, _∙_}
 use borrow.Author.Needs.{needs}
 use Rattle.eval.proofs.lowest.Lowest.fail.Statement.{statement}
 use Rattle.eval.proofs.lowest.Lowest.fail.Tie as tie
