@@ -101,6 +101,11 @@ module _ {A : Type 0} (p : A → Bool) where
       go true q h ih (_⊎_.inr m) = ih h m
       go false q h ih s = clash (cc)
 
+  pub every-of : (xs : List A) → ((x : A) → Member x xs → p x ≡ true) → every (map p xs) ≡ true
+  unfolding every
+  every-of [] h = refl
+  every-of (y ∷ ys) h = rw (h y (here refl)) (every-of ys (λ x m. h x (there m)))
+
   pub any-at : (xs : List A) (x : A) → Member x xs → p x ≡ true → any (map p xs) ≡ true
   unfolding any
   any-at [] x m e = absurd (nothing-in m)

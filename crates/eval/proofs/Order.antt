@@ -1,7 +1,7 @@
 -- Checks over the edges of a role, walked in any order: the lowest edge that fails is the witness; else one tag, else all hold.
 --     pairs-least, pairs-opens, pairs-holds       an outcome at each pair of a role word
 --     onward-least, onward-holds                  the edges that go on from an edge
---     composed-least, composed-holds              two edges, one after the other
+--     composed-holds, composed-first, composed-all    two edges, one after the other
 --     guarded-some, guarded-none                  is there an edge?
 use Prim.Native.Nat.{ℕ, zero, suc, _+_, _-_, _<_}
 use mathlib.Core.Bool.{Bool, true, false, cond}
@@ -174,22 +174,6 @@ module _ (D : Deck) (S : Structure) where
   onward-holds b sup x y h = onward-case D S (λ v. v ≡ Holds) b sup x y (λ z l e n. absurd (both-ways (h z l e) n)) (λ k. refl)
 
   -- ---- two edges, one after the other
-  pub composed-least : (a b sup x y z : ℕ) → Edge D S a x y → Edge D S b y z → hasEdge D S sup x z ≡ false
-      → ((p q u : ℕ) → Edge D S a p q → Edge D S b q u → Below x y (pair p q) → hasEdge D S sup p u ≡ true)
-      → ((u : ℕ) → u < z → hasEdge D S b y u ≡ true → hasEdge D S sup x u ≡ true)
-      → composed D S a b sup ≡ Fails (three x y z)
-  unfolding composed
-  composed-least a b sup x y z e k n h i =
-      let t = pairs-part a x y e in
-      let mem : (p : Pair) → Member p (t .before) → Member p (pairs D S a) = λ p m. rw (t .parts) (append-left (pair x y ∷ t .behind) m) in
-      let g : Pair → Verdict = λ p. onward D S b sup (p .from) (p .to) in
-      ap (λ (ps : List Pair). inTurn (map g ps)) (t .parts)
-      ∙ turn-first g (t .before) (pair x y) (t .behind)
-      (λ p m.
-      let o = in-pairs D S a p (mem p m) in
-      onward-holds b sup (p .from) (p .to) (λ u l c. h (p .from) (p .to) u o (record { from-in = o .to-in; to-in = l; has = c }) (t .lower p m)))
-      ∙ ap (λ (v : Verdict). orElse v (inTurn (map g (t .behind)))) (onward-least b sup x y z (k .to-in) (k .has) n i)
-
   pub composed-holds : (a b sup : ℕ) → ((x y z : ℕ) → Edge D S a x y → Edge D S b y z → hasEdge D S sup x z ≡ true) → composed D S a b sup ≡ Holds
   composed-holds a b sup h = composed-case D S (λ v. v ≡ Holds) a b sup (λ x y z e k n. absurd (both-ways (h x y z e k) n)) (λ k. refl)
 
