@@ -1,6 +1,6 @@
 -- Antecedents: their required atoms at a label, and whether there is one.
 -- Assumes nothing.
-use Prim.Native.Nat.{ℕ, _+_, _/_, _%_, _<_}
+use Prim.Native.Nat.{ℕ, _<_}
 use mathlib.Core.Bool.{Bool, true, false, _||_, _&&_}
 use mathlib.Core.Path.{_≡_, refl, sym, ap, _∙_}
 use mathlib.Core.List.{List, [], _∷_, _++_, map, flatMap}
@@ -14,14 +14,14 @@ use Rattle.deck.specs.declared.rows.Span.{Span}
 use Rattle.deck.specs.Deck.{Deck}
 use Rattle.deck.specs.Content.{IsAccepted, deckOf}
 use Rattle.deck.specs.Reads.{ConceptRead, listOf}
-use Rattle.eval.specs.Lent.{bit, labelWidth}
+use Rattle.eval.specs.Lent.{labelWidth, memberIn}
 use Rattle.eval.specs.Lists.{every, any}
 use Rattle.model.specs.Label.{labelHas}
-use Rattle.model.specs.Rows.{rowAt}
+use Rattle.model.specs.Rows.{rowsOf}
 use Rattle.model.specs.Floor.{universal, requiredAtoms}
 use Rattle.model.specs.Rounds.{someIn, hasAtom, isRule, holdsAtoms}
 use Rattle.model.proofs.PushLaws.{map-append}
-use Rattle.model.proofs.LabelLaws.{row-word}
+use Rattle.model.proofs.InternLaws.{label-member}
 use Rattle.model.proofs.FloorLaws.{fits-read, atoms-atomic, atoms-and, atoms-other}
 
 -- ---- lists of lists
@@ -45,11 +45,6 @@ unfolding any flatMap
 some-flat f [] = refl
 some-flat f (x ∷ xs) = rw (some-append (f x) (flatMap f xs), some-flat f xs)
 
--- ---- a class of the label whose words start at a place
-row-has : (w : ℕ) (buf : List ℕ) (at k : ℕ) → k / 64 < w → bit (getD buf (at + k / 64) 0) (k % 64) ≡ labelHas (rowAt w buf at) k
-unfolding labelHas
-row-has w buf at k h = rw (row-word w buf at (k / 64) h)
-
 -- ---- a concept that was read
 module _ (s : List ℕ) (A : IsAccepted s) (c : ℕ) {expr : ConceptExpr} (R : ConceptRead s c expr) where
   abbrev D : Deck
@@ -72,9 +67,9 @@ module _ (s : List ℕ) (A : IsAccepted s) (c : ℕ) {expr : ConceptExpr} (R : C
     unfolding holdsAtoms every
     holds-other h = ap (λ l. every (map (labelHas label) l)) (atoms-other s A c R h)
 
-  -- an atom, as the code reads it from the label's words
-  pub holds-atom-at : (buf : List ℕ) (at k : ℕ) → expr ≡ ConceptExpr.Atomic (record { 0 = k }) → bit (getD buf (at + k / 64) 0) (k % 64) ≡ holdsAtoms D (rowAt (labelWidth D) buf at) c
-  holds-atom-at buf at k p = let f = fits-read s A c R _ p in row-has (labelWidth D) buf at k (omega (arith, f)) ∙ holds-atomic (rowAt (labelWidth D) buf at) k p
+  -- an atom, as the code reads it from the labels
+  pub holds-atom-at : (n : ℕ) (buf : List ℕ) (e k : ℕ) → e < n → expr ≡ ConceptExpr.Atomic (record { 0 = k }) → memberIn buf (labelWidth D) e k ≡ holdsAtoms D (getD (rowsOf (labelWidth D) n buf) e []) c
+  holds-atom-at n buf e k h p = let f = fits-read s A c R _ p in sym (label-member (labelWidth D) n buf e k h (omega (arith, f))) ∙ holds-atomic (getD (rowsOf (labelWidth D) n buf) e []) k p
 
   pub some-atomic : (k : ℕ) → expr ≡ ConceptExpr.Atomic (record { 0 = k }) → true ≡ hasAtom D c
   unfolding hasAtom

@@ -3,7 +3,7 @@
 use Prim.Native.Nat.{ℕ}
 use mathlib.Core.Bool.{Bool, true, false, cond, _||_, or-true, or-false}
 use mathlib.Core.Path.{_≡_, refl, sym, ap, subst, _∙_}
-use mathlib.Core.List.{List, [], _∷_, _++_, map, flatMap}
+use mathlib.Core.List.{List, [], _∷_, map, flatMap}
 use lib.ListN.{length, replicate, length-replicate}
 use types.Run.{OneOf}
 use denote.Enum.Declared.{tagOf}

@@ -2,10 +2,10 @@
 --     link-row, link-delta, link-none       a target, by how it is labelled
 --     fact-other, fact-own, class-yes, class-no
 --     Taking                               the loop: the bound on the number of turns is never what ends it
-use Prim.Native.Nat.{ℕ, zero, suc, _+_, _*_, _-_, _/_, _<_, _≤_}
+use Prim.Native.Nat.{ℕ, zero, suc, _+_, _-_, _/_, _<_, _≤_}
 use mathlib.Core.Path.{_≡_, refl, sym, ap, _∙_, subst}
-use mathlib.Core.Bool.{Bool, true, false, cond, _||_, or-true, or-false}
-use mathlib.Core.List.{List, [], _∷_}
+use mathlib.Core.Bool.{Bool, true, false, cond, or-true, or-false}
+use mathlib.Core.List.{List, []}
 use mathlib.Core.Logic.{⊎-elim}
 use native.Mathlib.Nat.{eq-or-lt-of-le, le-of-suc-le-suc}
 use native.Mathlib.Omega.{arith}
@@ -14,28 +14,20 @@ use lib.Dec.{eqb}
 use borrow.Author.Tests.{eq-eqb, ne-eqb}
 use Rattle.deck.specs.Deck.{Deck, Fact}
 use Rattle.deck.specs.Content.{deckOf}
-use Rattle.eval.specs.Lent.{labelWidth, bit, memberIn}
+use Rattle.eval.specs.Lent.{labelWidth}
 use Rattle.model.specs.declared.bounds.Bounds.{Bounds}
 use Rattle.model.specs.declared.tally.Tally.{Tally}
 use Rattle.model.specs.declared.tally.Step.{Step}
 use Rattle.model.specs.declared.target_label.Target.{Target}
 use Rattle.model.specs.Label.{labelHas, insertBit}
-use Rattle.model.specs.Rows.{rowAt, rowsOf}
 use Rattle.model.specs.Push.{quiet}
 use Rattle.model.specs.Target.{targetOf}
-use Rattle.model.specs.Walk.{walk}
 use Rattle.model.specs.Model.{Model, Buffers, begun, Built, Prepared}
 use Rattle.model.specs.Expand.{linkTarget, workFact, factStep, workFacts, classStep, workClasses, highest, nextTurn, turns, expandIn}
-use Rattle.model.proofs.LabelLaws.{row-word}
 use Rattle.model.proofs.MemberLaws.{has-insert, none-has}
-use Rattle.model.proofs.RowLaws.{length-rows, rows-at}
+use Rattle.model.proofs.RowLaws.{length-rows}
 use Rattle.model.proofs.WalkLaws.{walk-fixed}
 use Rattle.model.proofs.BuildLaws.{built-is, built-same, built-trans, built-start, built-quiet, built-tripped}
-
--- a label's class, read off the buffer
-pub label-member : (w n : ℕ) (buf : List ℕ) (e k : ℕ) → e < n → k / 64 < w → labelHas (getD (rowsOf w n buf) e []) k ≡ memberIn buf w e k
-unfolding labelHas memberIn
-label-member w n buf e k h l = rw (rows-at w n buf e h, row-word w buf (e * w) (k / 64) l)
 
 cond-true : {A : Type 0} (b : Bool) (x y : A) → b ≡ true → cond b x y ≡ x
 cond-true true x y h = refl

@@ -1,8 +1,8 @@
 -- Laws of interning. Assumes nothing.
 use mathlib.Core.Path.{_≡_, refl, sym, ap, _∙_, subst}
 use mathlib.Core.Bool.{Bool, true, false, cond}
-use mathlib.Core.List.{List, [], _∷_, _++_, append-assoc, append-nil, List·Memᴰ, List·Memᴰ·head, List·Memᴰ·tail, List·Memᴰ·append-cases, List·Memᴰ·eq-of-singleton, Memᴰ·append-left, Memᴰ·append-right}
-use mathlib.Core.Logic.{⊎-elim, _⊎_, inl, inr}
+use mathlib.Core.List.{List, [], _∷_, _++_, append-assoc, append-nil, List·Memᴰ, List·Memᴰ·head, List·Memᴰ·tail, Memᴰ·append-left, Memᴰ·append-right}
+use mathlib.Core.Logic.{_⊎_, inl, inr}
 use Rattle.deck.proofs.CaseLaws.{lt-or-le}
 use Rattle.model.proofs.LabelLaws.{same-eq, row-word}
 use Prim.Native.Nat.{ℕ, zero, suc, _+_, _*_, _/_, _%_, _≤_, _<_}
@@ -163,6 +163,11 @@ extends-length {ls} {ms} h = omega (arith, ap length (h .is), length-append ls (
 -- an element keeps its label
 pub extends-at : {ls ms : List (List ℕ)} → Extends ls ms → (e : ℕ) → e < length ls → getD ms e [] ≡ getD ls e []
 extends-at {ls} {ms} h e b = ap (λ (r : List (List ℕ)). getD r e []) (h .is) ∙ List·getD-append ls (h .more) [] e b
+
+-- a label's class, read off the buffer
+pub label-member : (w n : ℕ) (buf : List ℕ) (e k : ℕ) → e < n → k / 64 < w → labelHas (getD (rowsOf w n buf) e []) k ≡ memberIn buf w e k
+unfolding labelHas memberIn
+label-member w n buf e k h l = rw (rows-at w n buf e h, row-word w buf (e * w) (k / 64) l)
 
 -- a label's class, read off the buffer that holds the labels
 pub member-label : {w : ℕ} {ls : List (List ℕ)} → Wide w ls → (buf : List ℕ) (e k : ℕ) → e < length ls → k / 64 < w → memberIn (put buf (flat ls)) w e k ≡ labelHas (getD ls e []) k

@@ -4,7 +4,7 @@
 --     reach-kept                                         a label interned, and the edge to it
 --     walk-kept                                          a walk of steps
 use Prim.Native.Nat.{ℕ, _+_, _<_, _≤_}
-use mathlib.Core.Bool.{true, false, cond}
+use mathlib.Core.Bool.{false, cond}
 use mathlib.Core.Path.{_≡_, refl}
 use mathlib.Core.List.{List, [], _∷_, List·Memᴰ as Member}
 use mathlib.Core.Logic.{⊎-elim}

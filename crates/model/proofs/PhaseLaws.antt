@@ -4,20 +4,19 @@
 use Prim.Native.Nat.{ℕ, _+_, _*_, _<_, _≤_}
 use mathlib.Core.Bool.{Bool, true, false, cond}
 use mathlib.Core.Path.{_≡_, refl, sym, ap, subst, _∙_}
-use mathlib.Core.List.{List, [], map, List·Memᴰ·not-nil as nothing-in}
+use mathlib.Core.List.{List, map, List·Memᴰ·not-nil as nothing-in}
 use native.Mathlib.Omega.{arith}
 use lib.ListN.{length, length-map}
 use lib.Dec.{leb, ltb}
-use borrow.Author.Tests.{le-leb, lt-leb, lt-ltb, le-ltb}
+use borrow.Author.Tests.{le-leb, lt-leb, lt-ltb}
 use Rattle.deck.specs.Deck.{Deck, classCount}
 use Rattle.deck.specs.Content.{IsAccepted, deckOf}
 use Rattle.eval.specs.Edges.{edgesOf, rowOf}
 use Rattle.eval.specs.Lent.{labelWidth}
-use Rattle.eval.proofs.EdgeWalks.{edges-length}
 use Rattle.model.specs.declared.bounds.Bounds.{Bounds}
 use Rattle.model.specs.declared.tally.Tally.{Tally}
 use Rattle.model.specs.declared.tally.Step.{Step}
-use Rattle.model.specs.Rows.{put, flat, rowsOf}
+use Rattle.model.specs.Rows.{put, flat}
 use Rattle.model.specs.Intern.{Held}
 use Rattle.model.specs.Floor.{floorLabel}
 use Rattle.model.specs.Seed.{seeds, Seeded}
@@ -27,13 +26,13 @@ use Rattle.model.specs.Closing.{close, EdgesFit, Ready}
 use Rattle.model.specs.Model.{Model, withState, noteIn, Buffers, lent, begun, among, top, Prepared, Built}
 use Rattle.model.specs.Expand.{expand, expandIn}
 use Rattle.model.specs.Rounds.{expandFromAxioms}
-use Rattle.model.specs.Phases.{phase, seeded, closeIn, laterPhases, phases, withDropped, construct, tallyOf, Dropped, Constructed}
+use Rattle.model.specs.Phases.{phase, seeded, closeIn, laterPhases, phases, withDropped, construct, Dropped, Constructed}
 use Rattle.model.proofs.RowLaws.{length-rows, rows-put, room-below}
-use Rattle.model.proofs.InternLaws.{held-start, held-on, held-rows, held-length}
+use Rattle.model.proofs.InternLaws.{held-start, held-on}
 use Rattle.model.proofs.SeedLaws.{seeds-wide, seeds-few}
 use Rattle.model.proofs.PushLaws.{left-words, left-edges, left-log, left-count}
 use Rattle.model.proofs.JudgingLaws.{put-sets}
-use Rattle.model.proofs.BuildLaws.{all-fit, left-among, top-classes, built-is, built-same, built-trans, built-start, built-quiet, built-tripped, built-count, prepared-after}
+use Rattle.model.proofs.BuildLaws.{all-fit, left-among, top-classes, built-is, built-trans, built-start, built-quiet, built-count, prepared-after}
 use Rattle.model.proofs.TidyLaws.{tidy-floor}
 use Rattle.model.proofs.KeepLaws.{kept-trans}
 use Rattle.model.proofs.ExpandKeeps.{expand-kept}

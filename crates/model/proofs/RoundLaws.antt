@@ -5,7 +5,7 @@
 --     pair-same, pair-differs           two members
 --     sub-class-fires, …, other-fires   an axiom that was read
 --     Rounding                           rounds, one after the other
-use Prim.Native.Nat.{ℕ, zero, suc, _+_, _-_, _*_, _<_, _≤_}
+use Prim.Native.Nat.{ℕ, zero, suc, _+_, _-_, _<_, _≤_}
 use mathlib.Core.Bool.{Bool, true, false, cond, _||_, _&&_, or-true}
 use mathlib.Core.Path.{_≡_, refl, sym, ap, _∙_}
 use mathlib.Core.List.{List, []}
@@ -21,19 +21,17 @@ use Rattle.deck.specs.Reads.{AxiomRead, listOf}
 use Rattle.deck.proofs.CaseLaws.{Cases, case-at}
 use Rattle.eval.specs.Lent.{labelWidth}
 use Rattle.eval.specs.Lists.{range}
-use Rattle.eval.specs.Numbered.{numbered}
 use Rattle.model.specs.declared.bounds.Bounds.{Bounds}
 use Rattle.model.specs.declared.tally.Tally.{Tally}
 use Rattle.model.specs.declared.tally.Step.{Step}
 use Rattle.model.specs.Walk.{walk}
-use Rattle.model.specs.Rows.{rowAt}
 use Rattle.model.specs.Reasons.{boundTripped}
 use Rattle.model.specs.Push.{quiet}
 use Rattle.model.specs.Model.{Model, tripIn, Buffers, begun, Prepared, Built}
-use Rattle.model.specs.Exists.{work, workStep}
+use Rattle.model.specs.Exists.{work}
 use Rattle.model.specs.Rounds.{isRule, holdsAtoms, fire, firePair, fireFrom, fireAxiom, visit, round, rounds}
 use Rattle.model.proofs.ExistsLaws.{work-stuck}
-use Rattle.model.proofs.RowLaws.{rows-at, length-rows}
+use Rattle.model.proofs.RowLaws.{length-rows}
 use Rattle.model.proofs.InternLaws.{held-length}
 use Rattle.model.proofs.FloorLaws.{axiom-sub-class, axiom-equivalent}
 use Rattle.model.proofs.WalkLaws.{walk-fixed}
@@ -99,22 +97,16 @@ module _ (D : Deck) (floor : List ℕ) (B : Bounds) (e : ℕ) (m : Model) (w : m
 pub labels-size : {s : List ℕ} {B : Bounds} {b : Buffers} {t : Tally} {floor label : List ℕ} → Prepared s B b t floor label → {b′ : Buffers} {l : List ℕ} {r : Step} {m : Model} → Built (deckOf s) B b t b′ l r m → length (b′ .labels) ≡ length (b .labels)
 labels-size P {r = r} X = held-length (X .held) (fits-in P (r .tally .elements) (X .most))
 
--- ---- a rule at element e, as the code meets it: the label stands in the buffer from `at` on
-module _ {s : List ℕ} {B : Bounds} {b : Buffers} {t : Tally} {floor label : List ℕ} (P : Prepared s B b t floor label) {e : ℕ} (h : e < t .elements) (ante sup : ℕ) {at : ℕ} (p : at ≡ e * length label) {f : Bool}
-    (k : f ≡ (holdsAtoms (deckOf s) (rowAt (labelWidth (deckOf s)) (b .labels) at) ante && isRule (deckOf s) ante)) where
-  test-is : (holdsAtoms (deckOf s) (getD (begun (deckOf s) b t .labels) e []) ante && isRule (deckOf s) ante) ≡ f
-  test-is =
-      let w = labelWidth (deckOf s) in
-      let q : e * w ≡ at = ap (λ n. e * n) (sym (P .label-wide)) ∙ sym p in
-      ap (λ l. holdsAtoms (deckOf s) l ante && isRule (deckOf s) ante) (rows-at w (t .elements) (b .labels) e h ∙ ap (λ i. rowAt w (b .labels) i) q) ∙ sym k
-
+-- ---- a rule at element e, as the code meets it
+module _ {s : List ℕ} {B : Bounds} {b : Buffers} {t : Tally} {floor label : List ℕ} (P : Prepared s B b t floor label) (e ante sup : ℕ) {f : Bool}
+    (k : f ≡ (holdsAtoms (deckOf s) (getD (begun (deckOf s) b t .labels) e []) ante && isRule (deckOf s) ante)) where
   pub fire-yes : f ≡ true → {b′ : Buffers} {l : List ℕ} {r : Step} → Built (deckOf s) B b t b′ l r (work (deckOf s) floor B sup e (begun (deckOf s) b t)) → Built (deckOf s) B b t b′ l r (fire (deckOf s) floor B e ante sup (begun (deckOf s) b t))
   unfolding fire
-  fire-yes w X = built-is X (sym (ap (λ c. cond c (work (deckOf s) floor B sup e (begun (deckOf s) b t)) (begun (deckOf s) b t)) (test-is ∙ w)))
+  fire-yes w X = built-is X (sym (ap (λ c. cond c (work (deckOf s) floor B sup e (begun (deckOf s) b t)) (begun (deckOf s) b t)) (sym k ∙ w)))
 
   pub fire-no : f ≡ false → Built (deckOf s) B b t b label (quiet t) (fire (deckOf s) floor B e ante sup (begun (deckOf s) b t))
   unfolding fire
-  fire-no w = built-is (built-same P) (sym (ap (λ c. cond c (work (deckOf s) floor B sup e (begun (deckOf s) b t)) (begun (deckOf s) b t)) (test-is ∙ w)))
+  fire-no w = built-is (built-same P) (sym (ap (λ c. cond c (work (deckOf s) floor B sup e (begun (deckOf s) b t)) (begun (deckOf s) b t)) (sym k ∙ w)))
 
 module _ (D : Deck) (floor : List ℕ) (B : Bounds) (e : ℕ) (m : Model) where
   -- ---- two members

@@ -28,24 +28,23 @@ use Rattle.eval.specs.declared.shape.Shape.{Shape}
 use Rattle.eval.specs.Lent.{labelWidth, memberIn, structureOf, EdgeFits, Fits}
 use Rattle.eval.specs.Foreign.{countsFit, edgesFit, labelFits, labelsFit, structureFits}
 use Rattle.eval.specs.Verdict.{wordsOf, verdict}
-use Rattle.eval.specs.Truth.{Choice, True}
 use Rattle.eval.proofs.Clash.{clash}
 use Rattle.eval.proofs.ListLaws.{member-at}
 use Rattle.eval.proofs.JustifiedLaws.{justified}
 use Rattle.model.specs.declared.bounds.Bounds.{Bounds}
 use Rattle.model.specs.declared.tally.Tally.{Tally}
 use Rattle.model.specs.declared.outcome.Outcome.{Outcome}
-use Rattle.model.specs.declared.outcome.Outcome.the-variants.{Confirmed, Failed, Open}
+use Rattle.model.specs.declared.outcome.Outcome.the-variants.{Confirmed, Open}
 use Rattle.model.specs.declared.run.RunAnswer.{RunAnswer}
 use Rattle.model.specs.Label.{labelHas}
-use Rattle.model.specs.Rows.{put, flat, rowAt, rowsOf, Wide, none, more}
+use Rattle.model.specs.Rows.{put, flat, rowAt, Wide, none, more}
 use Rattle.model.specs.Push.{edge}
 use Rattle.model.specs.Closing.{EdgesFit}
 use Rattle.model.specs.Model.{Model, lent, top}
 use Rattle.model.specs.Phases.{construct, tallyOf, Constructed}
 use Rattle.model.specs.Outcome.{isFails, isUnresolved, outcomeBy, outcomeOf}
 use Rattle.model.specs.Run.{runRefusal, boundsFit, roomFits, Ran, ran, shapeIn, verdictsIn, wordsIn, judged, accepted, unlessRefused, run}
-use Rattle.model.specs.Trust.{Vouched, Stands, Trusted, Lendable}
+use Rattle.model.specs.Trust.{Stands, Trusted, Lendable}
 use Rattle.model.proofs.RowLaws.{rows-put, rows-at, length-put, length-flat}
 use Rattle.model.proofs.SeedLaws.{row-member}
 use Rattle.model.proofs.JudgingLaws.{length-words}

@@ -9,10 +9,9 @@ use mathlib.Core.List.{List, [], _∷_, _++_, map, flatMap}
 use mathlib.Core.Logic.{⊎-elim, _⊎_, inl, inr}
 use native.Mathlib.Nat.{mod-eq-of-lt}
 use native.Mathlib.Omega.{arith}
-use lib.ListN.{length, getD, replicate, length-replicate, length-append, List·getD-eq-default}
+use lib.ListN.{length, getD, replicate, length-replicate, List·getD-eq-default}
 use lib.Seq.{ext-getD, getD-set-same, getD-set-other}
 use lib.Bits.{bitOr, or-lt}
-use lib.Dec.{ltb}
 use borrow.Author.Tests.{ne-eqb}
 use Rattle.deck.specs.Deck.{Deck, Axiom, classAt, classCount}
 use Rattle.deck.specs.Sound.{Sound, EachBelow}

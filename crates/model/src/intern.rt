@@ -1,5 +1,6 @@
 // The labels of the elements, one after the other from the start of the lent buffer on, each of as many words as the label
-// in the making has. Equal labels are one element.
+// in the making has. Equal labels are one element. Three leaves know how labels lie: `find` here, `store`, which appends one,
+// and eval's `has_class`.
 ghost use mathlib.Core.Path.{_≡_};
 ghost use Prim.Native.Nat.{_+_, _*_, _<_, _≤_};
 ghost use lib.ListN.{length};
@@ -36,7 +37,7 @@ fn same_label(labels: &[u64], at: usize, label: &[u64]) -> bool
 }
 
 // Where row e of w words starts, in a table of n rows.
-pub fn row_start(e: usize, n: usize, w: usize, room: usize) -> usize
+fn row_start(e: usize, n: usize, w: usize, room: usize) -> usize
     requires { ⌜ (e < n) × (n * w ≤ room) ⌝ }
     ensures { λ r. ⌜ (r ≡ e * w) × (r + w ≤ room) ⌝ }
 {

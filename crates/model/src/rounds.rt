@@ -11,7 +11,6 @@ ghost use Rattle.model.specs.Model.{lent, begun, Prepared, Built};
 use crate::antecedent::fires;
 use crate::bounds::Bounds;
 use crate::exists::materialise_exists;
-use crate::intern::row_start;
 use crate::reasons::Reason;
 use crate::reasons::note;
 use crate::tally::Step;
@@ -44,8 +43,7 @@ fn fire(
     ensures { λ r. ⌜ Built (deckOf (now (deck .entry))) bounds (lent (now (labels .entry)) (now (edges .entry)) (now (log .entry))) t (lent (now (labels .exit)) (now (edges .exit)) (now (log .exit))) (now (label .exit)) r
         (spec.fire (deckOf (now (deck .entry))) (now (floor .entry)) bounds (e .0) (ante .0) (sup .0) (begun (deckOf (now (deck .entry))) (lent (now (labels .entry)) (now (edges .entry)) (now (log .entry))) t)) ⌝ }
 {
-    let at = row_start(e.0 as usize, t.elements as usize, label.len(), labels.len());
-    if fires(deck, labels, at, ante) {
+    if fires(deck, labels, t.elements, e, ante) {
         return materialise_exists(deck, bounds, floor, label, labels, edges, log, t, sup, e);
     }
     Step {

@@ -3,8 +3,8 @@ use mathlib.Core.Path.{_≡_, refl, sym, _∙_}
 use native.Mathlib.Omega.{arith}
 use borrow.Author.Needs.{needs}
 use denote.Ref.{now}
-use mathlib.Core.List.{map}
-use lib.ListN.{drop}
+use mathlib.Core.List.{[], map}
+use lib.ListN.{getD, drop}
 use Rattle.deck.specs.Content.{deckOf}
 use Rattle.deck.specs.Reads.{listOf}
 use Rattle.deck.proofs.TableLaws.{list-length}
@@ -12,7 +12,7 @@ use Rattle.model.proofs.FloorLaws.{fits-read}
 use borrow.Author.Tests.{not-true, not-false}
 use Rattle.eval.specs.Lists.{every}
 use Rattle.eval.specs.Lent.{labelWidth}
-use Rattle.model.specs.Rows.{rowAt}
+use Rattle.model.specs.Rows.{rowsOf}
 use Rattle.model.specs.Rounds.{holdsAtoms}
 use Rattle.model.proofs.ListWalks.{every-end, every-step, every-stop}
 use Rattle.model.proofs.AntecedentLaws.{holds-atom-at, holds-and, holds-other}
@@ -26,15 +26,15 @@ use Rattle.model.proofs.antecedent.holds_atoms.Kinds as holds-atoms-kin
 use Rattle.model.proofs.antecedent.+all_hold+holds_atoms.Lts-holds_atoms as holds-atoms-lts
 use Rattle.deck.proofs.concepts.concept_at.Reads as concept-at-reads
 use Rattle.deck.proofs.rows.item.Reads as item-reads
-use Rattle.model.proofs.antecedent.has_class_at.Reads as has-class-at-reads
+use Rattle.eval.proofs.labels.has_class.Reads as has-class-reads
 use Rattle.model.proofs.antecedent.+all_hold+holds_atoms.{statement}
 use Rattle.model.proofs.antecedent.+all_hold+holds_atoms.Tie.{close}
 
 abbrev μ-all-hold : Measures 2 all-hold-kinds.ps ℕ
-μ-all-hold κs a = a .1 .1 .1 .0 .0 * 2
+μ-all-hold κs a = a .1 .1 .1 .1 .0 .0 * 2
 
 abbrev μ-holds-atoms : Measures 2 holds-atoms-kinds.ps ℕ
-μ-holds-atoms κs a = a .1 .1 .1 .0 .0 * 2 + 1
+μ-holds-atoms κs a = a .1 .1 .1 .1 .0 .0 * 2 + 1
 
 abbrev all-hold-at : ℕ → In 2 all-hold-kinds.ps
 all-hold-at t = and 2 all-hold-kinds.ps (is 2 all-hold-kinds.ps μ-all-hold t) all-hold.Pre
@@ -55,26 +55,26 @@ abbrev all-hold-claims : ℕ → all-hold-lts.Claims
 all-hold-claims t = (item-reads.Asked, item-reads.Learnt, holds-atoms-below t, holds-atoms.Post)
 
 abbrev holds-atoms-claims : ℕ → holds-atoms-lts.Claims
-holds-atoms-claims t = (concept-at-reads.Asked, concept-at-reads.Learnt, has-class-at-reads.Asked, has-class-at-reads.Learnt, all-hold-below t, all-hold.Post)
+holds-atoms-claims t = (concept-at-reads.Asked, concept-at-reads.Learnt, has-class-reads.Asked, has-class-reads.Learnt, all-hold-below t, all-hold.Post)
 
 abbrev all-hold-Inv-loop : all-hold-lts.InvT-loop
-all-hold-Inv-loop deck labels at list count i₀ i = (i ≤ count) × (every (map (holdsAtoms (deckOf deck) (rowAt (labelWidth (deckOf deck)) labels at)) (listOf deck list)) ≡ every (map (holdsAtoms (deckOf deck) (rowAt (labelWidth (deckOf deck)) labels at)) (drop i (listOf deck list))))
+all-hold-Inv-loop deck labels elements e list count i₀ i = (i ≤ count) × (every (map (holdsAtoms (deckOf deck) (getD (rowsOf (labelWidth (deckOf deck)) elements labels) (e .0) [])) (listOf deck list)) ≡ every (map (holdsAtoms (deckOf deck) (getD (rowsOf (labelWidth (deckOf deck)) elements labels) (e .0) [])) (drop i (listOf deck list))))
 
 abbrev all-hold-μ-loop : all-hold-lts.MeasureT-loop
-all-hold-μ-loop deck labels at list count i₀ i = count - i
+all-hold-μ-loop deck labels elements e list count i₀ i = count - i
 
 all-hold-loop-holds : (t : ℕ) → all-hold-lts.Need-loop-holds (all-hold-claims t) (all-hold-at t) all-hold.Post all-hold-Inv-loop all-hold-μ-loop
 all-hold-loop-holds t c = (omega arith, refl)
 
 all-hold-item-requires : (t : ℕ) → all-hold-lts.Need-item-requires (all-hold-claims t) (all-hold-at t) all-hold.Post all-hold-Inv-loop all-hold-μ-loop
-all-hold-item-requires t c κs = let z = c .before .before .before .before in (z .pre .1 .0, (z .pre .1 .1 .1 .1 .within, omega arith))
+all-hold-item-requires t c κs = let z = c .before .before .before .before in (z .pre .1 .0, (z .pre .1 .1 .1 .1 .1 .within, omega arith))
 
 all-hold-holds-atoms-requires : (t : ℕ) → all-hold-lts.Need-holds-atoms-requires (all-hold-claims t) (all-hold-at t) all-hold.Post all-hold-Inv-loop all-hold-μ-loop
 all-hold-holds-atoms-requires t c κs =
     let z = c .before .before .before .before .before in
     let l = z .args .list in
-    let o = z .pre .1 .1 .1 .1 .below (c .before .before .loop .i) (omega (arith, list-length (now (z .args .deck)) (l .start) (l .count))) in
-    (omega (arith, o, z .pre .0, c .item .ensures), (z .pre .1 .0, (z .pre .1 .1 .0, omega (arith, o, z .pre .1 .1 .1 .0, c .item .ensures))))
+    let o = z .pre .1 .1 .1 .1 .1 .below (c .before .before .loop .i) (omega (arith, list-length (now (z .args .deck)) (l .start) (l .count))) in
+    (omega (arith, o, z .pre .0, c .item .ensures), (z .pre .1 .0, (z .pre .1 .1 .0, (z .pre .1 .1 .1 .0, omega (arith, o, z .pre .1 .1 .1 .1 .0, c .item .ensures)))))
 
 all-hold-returns : (t : ℕ) → all-hold-lts.Need-returns (all-hold-claims t) (all-hold-at t) all-hold.Post all-hold-Inv-loop all-hold-μ-loop
 all-hold-returns t c =
@@ -103,16 +103,16 @@ all-hold-returns-2 t c =
     every-end 0 (listOf (now (z .args .deck)) l) (c .before .loop .i) _ (omega (arith, list-length (now (z .args .deck)) (l .start) (l .count))) ∙ sym (c .before .loop .inv .1)
 
 holds-atoms-concept-at-requires : (t : ℕ) → holds-atoms-lts.Need-concept-at-requires (holds-atoms-claims t) (holds-atoms-at t) holds-atoms.Post
-holds-atoms-concept-at-requires t c κs = let z = c .before .before in (z .pre .1 .0, z .pre .1 .1 .1)
+holds-atoms-concept-at-requires t c κs = let z = c .before .before in (z .pre .1 .0, z .pre .1 .1 .1 .1)
 
 holds-atoms-enum-known-expr : (t : ℕ) → holds-atoms-lts.Need-enum-known-expr (holds-atoms-claims t) (holds-atoms-at t) holds-atoms.Post
 holds-atoms-enum-known-expr t c = search needs
 
-holds-atoms-has-class-at-requires : (t : ℕ) → holds-atoms-lts.Need-has-class-at-requires (holds-atoms-claims t) (holds-atoms-at t) holds-atoms.Post
-holds-atoms-has-class-at-requires t c κs =
+holds-atoms-has-class-requires : (t : ℕ) → holds-atoms-lts.Need-has-class-requires (holds-atoms-claims t) (holds-atoms-at t) holds-atoms.Post
+holds-atoms-has-class-requires t c κs =
     let z = c .before .before .before .before .before .before in
     let f = fits-read _ (z .pre .1 .0) (z .args .concept .0) (c .before .before .before .concept-at .ensures) _ (c .before .expr .given .1) in
-    omega (arith, f, z .pre .1 .1 .0)
+    (z .pre .1 .0, (z .pre .1 .1 .0, (z .pre .1 .1 .1 .0, f)))
 
 holds-atoms-enum-known-expr-2 : (t : ℕ) → holds-atoms-lts.Need-enum-known-expr-2 (holds-atoms-claims t) (holds-atoms-at t) holds-atoms.Post
 holds-atoms-enum-known-expr-2 t c = search needs
@@ -121,12 +121,12 @@ holds-atoms-all-hold-requires : (t : ℕ) → holds-atoms-lts.Need-all-hold-requ
 holds-atoms-all-hold-requires t c κs =
     let z = c .before .before .before .before .before .before in
     let f = fits-read _ (z .pre .1 .0) (z .args .concept .0) (c .before .before .before .concept-at .ensures) _ (c .before .expr2 .given .1) in
-    (omega (arith, z .pre .0), (z .pre .1 .0, (z .pre .1 .1 .0, (z .pre .1 .1 .1, f))))
+    (omega (arith, z .pre .0), (z .pre .1 .0, (z .pre .1 .1 .0, (z .pre .1 .1 .1 .0, (z .pre .1 .1 .1 .1, f)))))
 
 holds-atoms-returns : (t : ℕ) → holds-atoms-lts.Need-returns (holds-atoms-claims t) (holds-atoms-at t) holds-atoms.Post
 holds-atoms-returns t c =
     let z = c .before .before .before .before .before .before .before in
-    c .has-class-at .ensures ∙ holds-atom-at _ (z .pre .1 .0) (z .args .concept .0) (c .before .before .before .before .concept-at .ensures) (now (z .args .labels)) (z .args .at) _ (c .before .before .expr .given .1)
+    c .has-class .ensures ∙ holds-atom-at _ (z .pre .1 .0) (z .args .concept .0) (c .before .before .before .before .concept-at .ensures) (z .args .elements) (now (z .args .labels)) _ _ (z .pre .1 .1 .1 .0) (c .before .before .expr .given .1)
 
 holds-atoms-returns-2 : (t : ℕ) → holds-atoms-lts.Need-returns-2 (holds-atoms-claims t) (holds-atoms-at t) holds-atoms.Post
 holds-atoms-returns-2 t c = let z = c .before .before .before .before .before .before .before in c .all-hold .ensures ∙ holds-and _ (z .pre .1 .0) (z .args .concept .0) (c .before .before .before .before .concept-at .ensures) _ _ (c .before .before .expr2 .given .1)
@@ -154,7 +154,7 @@ pub +all-hold+holds-atoms-spec : {M : Type 1} → statement M
     holds-atoms.Post
     (holds-atoms-concept-at-requires t)
     (holds-atoms-enum-known-expr t)
-    (holds-atoms-has-class-at-requires t)
+    (holds-atoms-has-class-requires t)
     (holds-atoms-enum-known-expr-2 t)
     (holds-atoms-all-hold-requires t)
     (holds-atoms-returns t)

@@ -1,7 +1,8 @@
 use mathlib.Core.Path.{sym, _∙_}
 use native.Mathlib.Omega.{arith}
 use Rattle.model.proofs.BuildLaws.{built-is, built-same, all-fit}
-use Rattle.model.proofs.ExpandLaws.{class-yes, class-no, label-member}
+use Rattle.model.proofs.ExpandLaws.{class-yes, class-no}
+use Rattle.model.proofs.InternLaws.{label-member}
 use borrow.Author.Needs.{needs}
 use Rattle.model.proofs.expand.class_step.Statement.{statement}
 use Rattle.model.proofs.expand.class_step.Tie as tie

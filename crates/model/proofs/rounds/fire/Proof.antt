@@ -4,17 +4,8 @@ use borrow.Author.Needs.{needs}
 use Rattle.model.proofs.rounds.fire.Statement.{statement}
 use Rattle.model.proofs.rounds.fire.Tie as tie
 
-cast-row-start : tie.Need-cast-row-start
-cast-row-start c = search needs
-
-cast-row-start-2 : tie.Need-cast-row-start-2
-cast-row-start-2 c = search needs
-
-row-start-requires : tie.Need-row-start-requires
-row-start-requires c κs = let z = c .before .before .before .before .before .before .before in (z .pre .1 .1 .1, rw (z .pre .0 .label-wide) (all-fit (z .pre .0)))
-
 fires-requires : tie.Need-fires-requires
-fires-requires c κs = search needs
+fires-requires c κs = let z = c .before .before .before .before .before .before in (z .pre .0 .accepted, (all-fit (z .pre .0), (z .pre .1 .1 .1, z .pre .1 .0)))
 
 materialise-exists-requires : tie.Need-materialise-exists-requires
 materialise-exists-requires c κs = search needs
@@ -32,23 +23,18 @@ same-length-4 : tie.Need-same-length-4
 same-length-4 c = search needs
 
 returns : tie.Need-returns
-returns c =
-    let z = c .before .before .before .before .before .before .before .before .before .before .before .before .before .before .before .before .before .before .before .before .before .before .before in
-    fire-yes (z .pre .0) (z .pre .1 .1 .1) _ _ (c .before .before .before .before .before .before .before .before .before .before .before .before .before .before .before .row-start .ensures .0) (c .before .before .before .before .before .before .before .before .before .before .before .before .before .fires .ensures) (c .before .before .before .before .before .before .before .before .before .before .before .before .if1 .taken) (c .before .before .before .before .before .before .before .materialise-exists .ensures)
+returns c = let z = c .before .before .before .before .before .before .before .before .before .before .before .before .before .before .before .before .before .before .before .before in fire-yes (z .pre .0) _ _ _ (c .before .before .before .before .before .before .before .before .before .before .before .before .before .fires .ensures) (c .before .before .before .before .before .before .before .before .before .before .before .before .if1 .taken) (c .before .before .before .before .before .before .before .materialise-exists .ensures)
 
 same-length-5 : tie.Need-same-length-5
 same-length-5 c = search needs
 
 returns-2 : tie.Need-returns-2
-returns-2 c = let z = c .before .before .before .before .before .before .before .before .before .before .before in fire-no (z .pre .0) (z .pre .1 .1 .1) _ _ (c .before .before .before .row-start .ensures .0) (c .before .fires .ensures) (c .if1 .left)
+returns-2 c = let z = c .before .before .before .before .before .before .before .before in fire-no (z .pre .0) _ _ _ (c .before .fires .ensures) (c .if1 .left)
 
 pub fire-spec : {M : Type 1} → statement M
 fire-spec =
     tie.close
     (tie.spec
-    cast-row-start
-    cast-row-start-2
-    row-start-requires
     fires-requires
     materialise-exists-requires
     same-length
