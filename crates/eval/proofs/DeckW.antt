@@ -7,7 +7,7 @@ use Rattle.deck.specs.Word.{wordAt}
 use Rattle.deck.specs.Below.{allBelow, anyBelow}
 use Rattle.deck.specs.Trailer.{wordsBefore}
 use Rattle.deck.specs.Answer.{firstRefusal, trailerAnswer}
-use Rattle.deck.specs.Parts.{partWord}
+use Rattle.deck.specs.Parts.{partPlace, partWord}
 use Rattle.deck.specs.Records.{classAnswer, roleAnswer, injectedAnswer, conceptAnswer, axiomAnswer, factAnswer, recordAnswer, partAnswer, deckAnswer}
 use Rattle.deck.specs.Content.{IsAccepted, deckOf, table, listAt, classIn, roleIn, injectedIn, conceptIn, axiomIn, factIn, conceptOf, axiomOf, makeConcept, makeAxiom}
 use Rattle.eval.proofs.Specimens.{W}
@@ -40,9 +40,9 @@ abbrev pub deckW : List ℕ
 deckW = flatMap bytes words
 
 pub is-W : deckOf deckW ≡ W [] []
-unfolding deckOf table listAt classIn roleIn injectedIn conceptIn axiomIn factIn conceptOf axiomOf makeConcept makeAxiom partWord wordAt mathlib.Core.List.flatMap
+unfolding deckOf table listAt classIn roleIn injectedIn conceptIn axiomIn factIn conceptOf axiomOf makeConcept makeAxiom partPlace partWord wordAt mathlib.Core.List.flatMap
 is-W = refl
 
 pub accepted : IsAccepted deckW
-unfolding deckAnswer trailerAnswer firstRefusal partAnswer recordAnswer classAnswer roleAnswer injectedAnswer conceptAnswer axiomAnswer factAnswer wordsBefore allBelow anyBelow partWord wordAt mathlib.Core.List.flatMap
+unfolding deckAnswer trailerAnswer firstRefusal partAnswer recordAnswer classAnswer roleAnswer injectedAnswer conceptAnswer axiomAnswer factAnswer wordsBefore allBelow anyBelow partPlace partWord wordAt mathlib.Core.List.flatMap
 accepted = refl
