@@ -1,4 +1,5 @@
--- Two decks that agree on everything that a deck says: counts, records, and the list words that a record refers to.
+-- Two decks that agree on everything that a deck says: counts, records, and the list words that a record refers to (`Same`);
+-- or all that but where the lists stand (`Alike`).
 use Prim.Native.Nat.{ℕ, _+_, _<_, _≤_}
 use mathlib.Core.Path.{_≡_}
 use mathlib.Core.Bool.{Bool, true, false, _||_}
@@ -10,6 +11,7 @@ use Rattle.deck.specs.Kind.{Fields, ListField, FieldList, Unknown}
 use Rattle.deck.specs.Trailer.{partCount, widthOf, realOf, dropped}
 use Rattle.deck.specs.Parts.{partWord, listWord}
 use Rattle.deck.specs.Records.{conceptForm, axiomForm}
+use Rattle.deck.specs.Content.{listAt}
 
 -- whether fields f and f + 1 of a concept or an axiom are a list's start and count
 abbrev pub formNamesList : Form → ℕ → Bool
@@ -47,3 +49,12 @@ pub record Same (s t : List ℕ) : Type 0 where
   pub counts : (p : ℕ) → p < 6 → partCount s p ≡ partCount t p
   pub words : (p k f : ℕ) → p < 6 → k < partCount s p → f < widthOf p → partWord s p k f ≡ partWord t p k f
   pub lists : (i : ℕ) → Referenced s i → listWord s i ≡ listWord t i
+
+-- "Starts of rows count within lists.": each word but a list's start agrees, and each list has the same words, wherever it starts
+pub record Alike (s t : List ℕ) : Type 0 where
+  pub real : realOf s ≡ realOf t
+  pub dropped : dropped s ≡ dropped t
+  pub counts : (p : ℕ) → p < 6 → partCount s p ≡ partCount t p
+  pub words : (p k f : ℕ) → p < 6 → k < partCount s p → f < widthOf p → namesList s p k f ≡ false → partWord s p k f ≡ partWord t p k f
+  pub lists : (p k f : ℕ) → p < 6 → k < partCount s p → f + 1 < widthOf p → namesList s p k f ≡ true
+      → listAt s (partWord s p k f) (partWord s p k (f + 1)) ≡ listAt t (partWord t p k f) (partWord t p k (f + 1))
