@@ -60,3 +60,9 @@ module _ (f : ℕ → DeckAnswer) where
   unfolding firstRefusal
   first-all zero h = refl
   first-all (suc n) h = rw (first-all n (λ i l. h i (omega arith))) (h n (omega arith))
+
+-- records that are answered alike
+pub first-same : (f g : ℕ → DeckAnswer) (n : ℕ) → ((i : ℕ) → i < n → f i ≡ g i) → firstRefusal f n ≡ firstRefusal g n
+unfolding firstRefusal
+first-same f g zero h = refl
+first-same f g (suc n) h = rw (first-same f g n (λ i l. h i (omega arith)), h n (omega arith))

@@ -85,3 +85,15 @@ module _ (p : ℕ → Bool) where
   unfolding anyBelow
   any-nowhere zero h = refl
   any-nowhere (suc n) h = rw (any-nowhere n (λ i l. h i (omega arith))) (h n (omega arith))
+
+-- two tests that agree below the bound
+module _ (p q : ℕ → Bool) where
+  pub all-same : (n : ℕ) → ((i : ℕ) → i < n → p i ≡ q i) → allBelow p n ≡ allBelow q n
+  unfolding allBelow
+  all-same zero h = refl
+  all-same (suc n) h = rw (all-same n (λ i l. h i (omega arith)), h n (omega arith))
+
+  pub any-same : (n : ℕ) → ((i : ℕ) → i < n → p i ≡ q i) → anyBelow p n ≡ anyBelow q n
+  unfolding anyBelow
+  any-same zero h = refl
+  any-same (suc n) h = rw (any-same n (λ i l. h i (omega arith)), h n (omega arith))

@@ -1,19 +1,15 @@
 -- What the tests of rows and forms say: numbers and list words in range.
 -- Assumes nothing.
-use mathlib.Core.Path.{_≡_, refl, sym, _∙_}
-use mathlib.Core.Bool.{Bool, true, false, _&&_}
+use mathlib.Core.Path.{_≡_, _∙_}
+use mathlib.Core.Bool.{Bool, true, _&&_}
 use mathlib.Core.List.{List}
 use Prim.Native.Nat.{ℕ, _+_, _-_, _<_, _≤_}
 use native.Mathlib.Omega.{arith}
 use borrow.Author.Tests.{ltb-true, leb-true, lt-ltb, le-leb}
-use lib.Dec.{ltb}
-use lib.ListN.{length}
-use Rattle.deck.specs.declared.rows.Span.{Span}
 use Rattle.deck.specs.Kind.{Kind}
 use Rattle.deck.specs.Kind.{Zero, Flag, Class, RealClass, Role, RoleWord, Concept, Any}
 use Rattle.deck.specs.Kind.{Form}
 use Rattle.deck.specs.Kind.{Fields, ListField, FieldList, Unknown}
-use Rattle.deck.specs.Below.{allBelow}
 use Rattle.deck.specs.Trailer.{partCount}
 use Rattle.deck.specs.Parts.{partWord, listWord}
 use Rattle.deck.specs.Rows.{rowFits, rowShape, rowRises, wordBelow, wordRises}

@@ -13,6 +13,7 @@ pub mod TagLaws
 pub mod SoundLaws
 pub mod SearchLaws
 pub mod SameLaws
+pub mod SameAnswerLaws
 pub mod ReadLaws
 pub mod InjectedLaws
 pub mod FittingLaws

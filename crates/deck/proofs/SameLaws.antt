@@ -1,16 +1,16 @@
 -- Two decks that agree on counts, on records but for the starts of lists, and on the words of each list say the same: `alike-deck`.
 -- Nothing else of the bytes counts. Decks with equal records and referenced list words are such: `same-deck`.
 -- Assumes nothing.
-use mathlib.Core.Path.{_≡_, refl, sym, ap, _∙_}
+use mathlib.Core.Path.{_≡_, refl, ap, _∙_}
 use mathlib.Core.Logic.{⊎-elim}
-use mathlib.Core.Bool.{Bool, true, false}
+use mathlib.Core.Bool.{true, false}
 use mathlib.Core.List.{List}
 use Prim.Native.Nat.{ℕ, _+_, _<_, _≤_}
 use native.Mathlib.Omega.{arith}
 use lib.ListN.{length, getD, List·getD-eq-default}
 use Rattle.deck.specs.Kind.{Form}
 use Rattle.deck.specs.Kind.{Fields, ListField, FieldList, Unknown}
-use Rattle.deck.specs.Trailer.{partCount, widthOf, realOf, dropped}
+use Rattle.deck.specs.Trailer.{partCount, dropped}
 use Rattle.deck.specs.Parts.{partWord, listWord}
 use Rattle.deck.specs.Records.{conceptForm, conceptForms, axiomForm, axiomForms}
 use Rattle.deck.specs.Content.{table, listAt, listIn, makeConcept, makeAxiom, conceptOf, axiomOf, classIn, roleIn, injectedIn, conceptIn, axiomIn, factIn, deckOf}
