@@ -74,11 +74,7 @@ fn join_atom(
         }
         Target::Delta(class) => {
             insert_subsumers(deck, class, label);
-            let reason = Reason {
-                kind: 2,
-                first: a.0,
-                second: 0,
-            };
+            let reason = Reason::run_delta(a);
             let reasons = note(log, k.reasons, reason);
             Atoms {
                 found: k.found,
@@ -196,10 +192,6 @@ pub fn body_label(
     if !j.unclosed {
         return j.reasons;
     }
-    let reason = Reason {
-        kind: 1,
-        first: j.first.0,
-        second: r.0,
-    };
+    let reason = Reason::label_not_closed(j.first, r);
     note(log, j.reasons, reason)
 }

@@ -38,10 +38,7 @@ fn join(
     ensures { λ r. ⌜ Left limit (now (edges .entry)) (now (log .entry)) t (now (edges .exit)) (now (log .exit)) r (spec.join (deckOf (now (deck .entry))) (t .elements) limit (v .0) (x .0) (z .0) (start (now (edges .entry)) (now (log .entry)) t)) ⌝ }
 {
     if has_edge(deck, edges, t.edges, v, x, z) {
-        return Step {
-            tally: t,
-            tripped: false,
-        };
+        return Step::quiet(t);
     }
     let e = Edge {
         role: v,
@@ -78,10 +75,7 @@ fn close_from(
     loop {
         let found = next_pair(deck, edges, seen, b, after, end);
         let Found::At(j) = found else {
-            return Step {
-                tally: held,
-                tripped: false,
-            };
+            return Step::quiet(held);
         };
         let z = (j % 65536) as u32;
         let s = join(deck, limit, edges, log, held, v, Element(x), Element(z));
@@ -117,10 +111,7 @@ fn close_rule(
     loop {
         let found = next_pair(deck, edges, t.edges, a, after, end);
         let Found::At(k) = found else {
-            return Step {
-                tally: held,
-                tripped: false,
-            };
+            return Step::quiet(held);
         };
         let s = close_from(deck, limit, edges, log, held, held.edges, b, v, k);
         let tripped = s.tripped;
@@ -147,10 +138,7 @@ fn close_axiom(
 {
     let rule = rule_at(deck, axiom);
     let Rule::Compose(a, b, v) = rule else {
-        return Step {
-            tally: t,
-            tripped: false,
-        };
+        return Step::quiet(t);
     };
     close_rule(deck, limit, edges, log, t, a, b, v)
 }
@@ -172,10 +160,7 @@ fn close_pass(deck: &[u8], limit: u32, edges: &mut [[u32; 3]], log: &mut [u32], 
         held = s.tally;
         i += 1;
     }
-    Step {
-        tally: held,
-        tripped: false,
-    }
+    Step::quiet(held)
 }
 
 // Passes until one adds nothing or trips the bound.

@@ -95,10 +95,7 @@ pub fn materialise_exists(
             }
             ConceptExpr::Some(w, b) => {
                 if w.is_inverse() {
-                    return Step {
-                        tally: t,
-                        tripped: false,
-                    };
+                    return Step::quiet(t);
                 }
                 let r = w.role_id();
                 let a = reach_body(deck, bounds, floor, label, labels, edges, log, t, r, b, e);
@@ -112,10 +109,7 @@ pub fn materialise_exists(
                 c = b;
             }
             _ => {
-                return Step {
-                    tally: t,
-                    tripped: false,
-                };
+                return Step::quiet(t);
             }
         }
     }
@@ -154,8 +148,5 @@ fn materialise_all(
         held = s.tally;
         i += 1;
     }
-    Step {
-        tally: held,
-        tripped: false,
-    }
+    Step::quiet(held)
 }

@@ -89,25 +89,14 @@ fn link_target(
     match target {
         Target::Row(k) => link_row(deck, bounds, floor, label, labels, edges, log, t, r, e, k),
         Target::Delta(k) => {
-            let reason = Reason {
-                kind: 2,
-                first: y.0,
-                second: 0,
-            };
+            let reason = Reason::run_delta(y);
             let u = note(log, t, reason);
             link_row(deck, bounds, floor, label, labels, edges, log, u, r, e, k)
         }
         Target::NotClosed => {
-            let reason = Reason {
-                kind: 1,
-                first: y.0,
-                second: r.0,
-            };
+            let reason = Reason::label_not_closed(y, r);
             let u = note(log, t, reason);
-            Step {
-                tally: u,
-                tripped: false,
-            }
+            Step::quiet(u)
         }
     }
 }
@@ -133,10 +122,7 @@ fn fact_step(
 {
     let record = fact_at(deck, fact);
     if record.from.0 != k.0 {
-        return Step {
-            tally: t,
-            tripped: false,
-        };
+        return Step::quiet(t);
     }
     let y = record.to;
     let role = record.role;
@@ -198,10 +184,7 @@ fn work_facts(
         held = s.tally;
         i += 1;
     }
-    Step {
-        tally: held,
-        tripped: false,
-    }
+    Step::quiet(held)
 }
 
 // Class k, where e has it.
@@ -226,10 +209,7 @@ fn class_step(
     if has_class(deck, labels, t.elements, e, k) {
         return work_facts(deck, bounds, floor, label, labels, edges, log, t, e, k);
     }
-    Step {
-        tally: t,
-        tripped: false,
-    }
+    Step::quiet(t)
 }
 
 // The classes of e, rising.
@@ -272,10 +252,7 @@ fn work_classes(
         held = s.tally;
         k += 1;
     }
-    Step {
-        tally: held,
-        tripped: false,
-    }
+    Step::quiet(held)
 }
 
 // One more than the highest element below n that is not taken, or 0.
@@ -314,10 +291,7 @@ pub fn expand(
     loop {
         let next = highest_untaken(&taken, held.elements);
         if next == 0 {
-            return Step {
-                tally: held,
-                tripped: false,
-            };
+            return Step::quiet(held);
         }
         insert_bit(&mut taken, next - 1);
         let s = work_classes(

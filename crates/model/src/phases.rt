@@ -186,11 +186,7 @@ fn note_dropped(deck: &[u8], log: &mut [u32], t: Tally) -> Tally
     if dropped == 0 {
         return t;
     }
-    let reason = Reason {
-        kind: 4,
-        first: dropped,
-        second: 0,
-    };
+    let reason = Reason::axioms_dropped(dropped);
     let reasons = note(log, t.reasons, reason);
     Tally {
         elements: t.elements,

@@ -59,15 +59,7 @@ pub fn add_edge(limit: u32, edges: &mut [[u32; 3]], log: &mut [u32], t: Tally, e
     let mut reasons = t.reasons;
     let trips = limit < count;
     if trips {
-        reasons = note(
-            log,
-            reasons,
-            Reason {
-                kind: 3,
-                first: 1,
-                second: limit,
-            },
-        );
+        reasons = note(log, reasons, Reason::bound_tripped(1, limit));
     }
     Step {
         tally: Tally {
@@ -85,10 +77,7 @@ pub fn push_edge(limit: u32, edges: &mut [[u32; 3]], log: &mut [u32], t: Tally, 
     ensures { λ r. ⌜ Left limit (now (edges .entry)) (now (log .entry)) t (now (edges .exit)) (now (log .exit)) r (pushEdge limit e (start (now (edges .entry)) (now (log .entry)) t)) ⌝ }
 {
     if is_known(edges, t.edges, e) {
-        return Step {
-            tally: t,
-            tripped: false,
-        };
+        return Step::quiet(t);
     }
     add_edge(limit, edges, log, t, e)
 }

@@ -46,11 +46,7 @@ pub fn reach(
     let element = placed.element;
     let elements = placed.elements;
     if bounds.max_elements < elements {
-        let reason = Reason {
-            kind: 3,
-            first: 0,
-            second: bounds.max_elements,
-        };
+        let reason = Reason::bound_tripped(0, bounds.max_elements);
         let reasons = note(log, t.reasons, reason);
         return Arrival {
             step: Step {

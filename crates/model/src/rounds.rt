@@ -46,10 +46,7 @@ fn fire(
     if fires(deck, labels, t.elements, e, ante) {
         return materialise_exists(deck, bounds, floor, label, labels, edges, log, t, sup, e);
     }
-    Step {
-        tally: t,
-        tripped: false,
-    }
+    Step::quiet(t)
 }
 
 // A pair of members of EquivalentClasses, where their concept numbers differ.
@@ -74,10 +71,7 @@ fn fire_pair(
         (spec.firePair (deckOf (now (deck .entry))) (now (floor .entry)) bounds (e .0) (a .0) (b .0) (begun (deckOf (now (deck .entry))) (lent (now (labels .entry)) (now (edges .entry)) (now (log .entry))) t)) ⌝ }
 {
     if a.0 == b.0 {
-        return Step {
-            tally: t,
-            tripped: false,
-        };
+        return Step::quiet(t);
     }
     fire(deck, bounds, floor, label, labels, edges, log, t, a, b, e)
 }
@@ -127,10 +121,7 @@ fn fire_from(
         held = s.tally;
         i += 1;
     }
-    Step {
-        tally: held,
-        tripped: false,
-    }
+    Step::quiet(held)
 }
 
 // From each member to each.
@@ -176,10 +167,7 @@ fn fire_equivalent(
         held = s.tally;
         i += 1;
     }
-    Step {
-        tally: held,
-        tripped: false,
-    }
+    Step::quiet(held)
 }
 
 // An axiom's rules at element e.
@@ -231,10 +219,7 @@ fn fire_axiom(
             Span { start: x, count: y },
             e,
         ),
-        _ => Step {
-            tally: t,
-            tripped: false,
-        },
+        _ => Step::quiet(t),
     }
 }
 
@@ -267,10 +252,7 @@ fn visit(
         held = s.tally;
         i += 1;
     }
-    Step {
-        tally: held,
-        tripped: false,
-    }
+    Step::quiet(held)
 }
 
 // Every element that is present when the round begins.
@@ -301,10 +283,7 @@ fn round(
         held = s.tally;
         i += 1;
     }
-    Step {
-        tally: held,
-        tripped: false,
-    }
+    Step::quiet(held)
 }
 
 // The rounds that may follow the first.
@@ -321,11 +300,7 @@ fn later_rounds(most: u32) -> u32
 fn trip_rounds(log: &mut [u32], limit: u32, t: Tally) -> Step
     ensures { λ r. ⌜ (now (log .exit) ≡ noted (now (log .entry)) (t .reasons) (boundTripped 2 limit)) × (r ≡ record { tally = record { elements = t .elements; edges = t .edges; reasons = counted (t .reasons) }; tripped = true }) ⌝ }
 {
-    let reason = Reason {
-        kind: 3,
-        first: 2,
-        second: limit,
-    };
+    let reason = Reason::bound_tripped(2, limit);
     let reasons = note(log, t.reasons, reason);
     Step {
         tally: Tally {

@@ -40,6 +40,9 @@ returns-2 c =
     let z = c .before .before .before .before .before .before .before .before .before .before .before .before .before .before .before .before .before .before in
     close-all _ _ _ _ _ (now (z .args .label)) _ (c .before .before .before .before .before .before .before .before .before .before .before .before .before .clear .ensures) (z .pre .1 .1 .1) (c .before .before .before .before .before .before .before .before .join-atoms .ensures) (not-false _ (c .before .before .if1 .left)) (not-true _ (c .if2 .taken))
 
+label-not-closed-requires : tie.Need-label-not-closed-requires
+label-not-closed-requires c κs = search needs
+
 note-requires : tie.Need-note-requires
 note-requires c κs = search needs
 
@@ -51,23 +54,10 @@ same-length-6 c = search needs
 
 returns-3 : tie.Need-returns-3
 returns-3 c =
-    let z = c .before .before .before .before .before .before .before .before .before .before .before .before .before .before .before .before .before .before .before .before .before .before in
-    close-open _ _ _ _ _ (now (z .args .label)) _ (c .before .before .before .before .before .before .before .before .before .before .before .before .before .before .before .before .before .clear .ensures) (z .pre .1 .1 .1) (c .before .before .before .before .before .before .before .before .before .before .before .before .join-atoms .ensures) (not-false _ (c .before .before .before .before .before .before .if1 .left)) (not-false _ (c .before .before .before .before .if2 .left)) (c .before .before .note .ensures .0) (c .before .before .note .ensures .1)
+    let z = c .before .before .before .before .before .before .before .before .before .before .before .before .before .before .before .before .before .before .before .before .before .before .before in
+    close-open _ _ _ _ _ (now (z .args .label)) _ (c .before .before .before .before .before .before .before .before .before .before .before .before .before .before .before .before .before .before .clear .ensures) (z .pre .1 .1 .1) (c .before .before .before .before .before .before .before .before .before .before .before .before .before .join-atoms .ensures) (not-false _ (c .before .before .before .before .before .before .before .if1 .left)) (not-false _ (c .before .before .before .before .before .if2 .left)) (rw (c .before .before .before .before .label-not-closed .ensures) at (c .before .before .note .ensures .0)) (c .before .before .note .ensures .1)
 
 pub body-label-spec : {M : Type 1} → statement M
 body-label-spec =
     tie.close
-    (tie.spec
-    clear-requires
-    join-atoms-requires
-    join-ranges-requires
-    same-length
-    same-length-2
-    returns
-    same-length-3
-    same-length-4
-    returns-2
-    note-requires
-    same-length-5
-    same-length-6
-    returns-3)
+    (tie.spec clear-requires join-atoms-requires join-ranges-requires same-length same-length-2 returns same-length-3 same-length-4 returns-2 label-not-closed-requires note-requires same-length-5 same-length-6 returns-3)

@@ -27,6 +27,9 @@ insert-subsumers-requires-2 c κs =
     let z = c .before .before .before .before .before .before .before .before .before .before in
     (z .pre .0, (subst (TargetFits _) (c .before .before .by2 .given .1) (c .before .before .before .before .target-label .ensures .1), z .pre .1 .1 .1))
 
+run-delta-requires : tie.Need-run-delta-requires
+run-delta-requires c κs = search needs
+
 note-requires : tie.Need-note-requires
 note-requires c κs = search needs
 
@@ -51,7 +54,7 @@ same-length-3 c = search needs
 
 returns-2 : tie.Need-returns-2
 returns-2 c =
-    joined-delta _ _ _ (c .before .before .before .before .before .before .before .before .before .before .before .target-label .ensures .0) _ _ _ (c .before .before .before .before .before .before .before .before .before .before .before .before .before .with-atom .ensures) _ (c .before .before .before .before .before .before .before .before .before .by2 .given .1) (c .before .before .before .before .before .before .insert-subsumers2 .ensures) (c .before .before .note .ensures .0) (c .before .before .note .ensures .1)
+    joined-delta _ _ _ (c .before .before .before .before .before .before .before .before .before .before .before .before .target-label .ensures .0) _ _ _ (c .before .before .before .before .before .before .before .before .before .before .before .before .before .before .with-atom .ensures) _ (c .before .before .before .before .before .before .before .before .before .before .by2 .given .1) (c .before .before .before .before .before .before .before .insert-subsumers2 .ensures) (rw (c .before .before .before .before .run-delta .ensures) at (c .before .before .note .ensures .0)) (c .before .before .note .ensures .1)
 
 same-length-4 : tie.Need-same-length-4
 same-length-4 c = search needs
@@ -63,20 +66,4 @@ returns-3 c =
 pub join-atom-spec : {M : Type 1} → statement M
 join-atom-spec =
     tie.close
-    (tie.spec
-    with-atom-requires
-    target-label-requires
-    enum-known-by
-    insert-subsumers-requires
-    enum-known-by-2
-    insert-subsumers-requires-2
-    note-requires
-    enum-told
-    insert-subsumers-requires-3
-    same-length
-    returns
-    same-length-2
-    same-length-3
-    returns-2
-    same-length-4
-    returns-3)
+    (tie.spec with-atom-requires target-label-requires enum-known-by insert-subsumers-requires enum-known-by-2 insert-subsumers-requires-2 run-delta-requires note-requires enum-told insert-subsumers-requires-3 same-length returns same-length-2 same-length-3 returns-2 same-length-4 returns-3)

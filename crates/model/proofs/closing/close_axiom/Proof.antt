@@ -20,8 +20,11 @@ enum-known-rule c = search needs
 enum-told : tie.Need-enum-told
 enum-told c = search needs
 
+quiet-requires : tie.Need-quiet-requires
+quiet-requires c κs = search needs
+
 returns : tie.Need-returns
-returns c = left-is (left-same _ _ _ _ (c .before .before .before .before .before .pre .0 .space)) (axiom-none _ _ _ _ _ (sym (c .before .before .rule-at .ensures) ∙ c .enum-told .given .1))
+returns c = rw (c .quiet .ensures) (left-is (left-same _ _ _ _ (c .before .before .before .before .before .before .pre .0 .space)) (axiom-none _ _ _ _ _ (sym (c .before .before .before .rule-at .ensures) ∙ c .before .enum-told .given .1)))
 
 close-rule-requires : tie.Need-close-rule-requires
 close-rule-requires c κs =
@@ -40,12 +43,4 @@ returns-2 c = left-is (c .before .before .before .close-rule .ensures) (axiom-by
 pub close-axiom-spec : {M : Type 1} → statement M
 close-axiom-spec =
     tie.close
-    (tie.spec
-    rule-at-requires
-    enum-known-rule
-    enum-told
-    returns
-    close-rule-requires
-    same-length
-    same-length-2
-    returns-2)
+    (tie.spec rule-at-requires enum-known-rule enum-told quiet-requires returns close-rule-requires same-length same-length-2 returns-2)

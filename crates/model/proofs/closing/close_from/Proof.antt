@@ -50,17 +50,20 @@ enum-known-found c = search needs
 enum-told : tie.Need-enum-told Inv-loop μ-loop
 enum-told c = search needs
 
+quiet-requires : tie.Need-quiet-requires Inv-loop μ-loop
+quiet-requires c κs = search needs
+
 same-length : tie.Need-same-length Inv-loop μ-loop
-same-length c = c .before .before .before .before .loop .inv .on .left .size
+same-length c = c .before .before .before .before .before .loop .inv .on .left .size
 
 same-length-2 : tie.Need-same-length-2 Inv-loop μ-loop
-same-length-2 c = c .before .before .before .before .loop .inv .on .left .log-size
+same-length-2 c = c .before .before .before .before .before .loop .inv .on .left .log-size
 
 returns : tie.Need-returns Inv-loop μ-loop
-returns c =
-    let z = c .before .before .before .before .before .before .before .before in
+returns c = rw (c .quiet .ensures) (
+    let z = c .before .before .before .before .before .before .before .before .before in
     let n : z .args .k % 65536 * 65536 + z .args .t .elements - z .args .k % 65536 * 65536 ≡ z .args .t .elements = omega arith in
-    left-is (rw n at (going-done _ _ _ _ _ _ _ _ _ (c .before .before .before .before .loop .inv) (rw (c .before .before .before .before .before .before .before .before .pre .1 .1 .1 .1) at (c .before .before .next-pair .ensures)) (c .enum-told .given .1))) (from-keys _ _ _ (z .pre .0 .few) _ _ _ (pairOf (z .args .k)))
+    left-is (rw n at (going-done _ _ _ _ _ _ _ _ _ (c .before .before .before .before .before .loop .inv) (rw (c .before .before .before .before .before .before .before .before .before .pre .1 .1 .1 .1) at (c .before .before .before .next-pair .ensures)) (c .before .enum-told .given .1))) (from-keys _ _ _ (z .pre .0 .few) _ _ _ (pairOf (z .args .k))))
 
 cast-z : tie.Need-cast-z Inv-loop μ-loop
 cast-z c = omega arith
@@ -97,25 +100,4 @@ loop-again c =
 pub close-from-spec : {M : Type 1} → statement M
 close-from-spec =
     tie.close
-    (tie.spec
-    Inv-loop
-    μ-loop
-    cast-x
-    mul-from
-    cast-end
-    add-end
-    loop-holds
-    next-pair-requires
-    enum-known-found
-    enum-told
-    same-length
-    same-length-2
-    returns
-    cast-z
-    join-requires
-    same-length-3
-    same-length-4
-    returns-2
-    add-after
-    loop-less
-    loop-again)
+    (tie.spec Inv-loop μ-loop cast-x mul-from cast-end add-end loop-holds next-pair-requires enum-known-found enum-told quiet-requires same-length same-length-2 returns cast-z join-requires same-length-3 same-length-4 returns-2 add-after loop-less loop-again)

@@ -1,3 +1,4 @@
+use borrow.Author.Needs.{needs}
 use native.Mathlib.Omega.{arith}
 use Prim.Native.Nat.{_-_, _≤_}
 use mathlib.Core.Path.{_∙_}
@@ -60,31 +61,20 @@ loop-again c =
     let F = rule-fits-at _ (sound _ (R .accepted)) (c .before .before .before .before .before .before .before .before .before .loop .i) (omega (arith, c .before .before .before .before .before .before .before .before .before .before .axiom-count .ensures .is)) in
     (omega arith, (on-next G (list-step (Axiom.DeclareClass 0) (deckOf (now (c .before .before .before .before .before .before .before .before .before .before .before .before .before .args .deck)) .axioms) (c .before .before .before .before .before .before .before .before .before .loop .i) (omega (arith, c .before .before .before .before .before .before .before .before .before .before .axiom-count .ensures .is))) (left-is L (axiom-same _ _ (G .left .elements) _ _)) (c .before .if1 .left), ready-next R L (c .before .if1 .left) (axiom-fits _ _ _ _ F _ (R .fits))))
 
+quiet-requires : tie.Need-quiet-requires Inv-loop μ-loop
+quiet-requires c κs = search needs
+
 same-length-3 : tie.Need-same-length-3 Inv-loop μ-loop
-same-length-3 c = c .before .loop .inv .1 .0 .left .size
+same-length-3 c = c .before .before .loop .inv .1 .0 .left .size
 
 same-length-4 : tie.Need-same-length-4 Inv-loop μ-loop
-same-length-4 c = c .before .loop .inv .1 .0 .left .log-size
+same-length-4 c = c .before .before .loop .inv .1 .0 .left .log-size
 
 returns-2 : tie.Need-returns-2 Inv-loop μ-loop
 unfolding closePass
-returns-2 c = on-done (c .before .loop .inv .1 .0) (drop-of-length-le (deckOf (now (c .before .before .before .before .before .args .deck)) .axioms) {i = c .before .loop .i} (omega (arith, c .before .before .axiom-count .ensures .is)))
+returns-2 c = rw (c .quiet .ensures) (on-done (c .before .before .loop .inv .1 .0) (drop-of-length-le (deckOf (now (c .before .before .before .before .before .before .args .deck)) .axioms) {i = c .before .before .loop .i} (omega (arith, c .before .before .before .axiom-count .ensures .is))))
 
 pub close-pass-spec : {M : Type 1} → statement M
 close-pass-spec =
     tie.close
-    (tie.spec
-    Inv-loop
-    μ-loop
-    axiom-count-requires
-    loop-holds
-    close-axiom-requires
-    same-length
-    same-length-2
-    returns
-    add-i
-    loop-less
-    loop-again
-    same-length-3
-    same-length-4
-    returns-2)
+    (tie.spec Inv-loop μ-loop axiom-count-requires loop-holds close-axiom-requires same-length same-length-2 returns add-i loop-less loop-again quiet-requires same-length-3 same-length-4 returns-2)

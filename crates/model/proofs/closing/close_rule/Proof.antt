@@ -44,14 +44,17 @@ enum-known-found c = search needs
 enum-told : tie.Need-enum-told Inv-loop μ-loop
 enum-told c = search needs
 
+quiet-requires : tie.Need-quiet-requires Inv-loop μ-loop
+quiet-requires c κs = search needs
+
 same-length : tie.Need-same-length Inv-loop μ-loop
-same-length c = c .before .before .before .before .loop .inv .0 .on .left .size
+same-length c = c .before .before .before .before .before .loop .inv .0 .on .left .size
 
 same-length-2 : tie.Need-same-length-2 Inv-loop μ-loop
-same-length-2 c = c .before .before .before .before .loop .inv .0 .on .left .log-size
+same-length-2 c = c .before .before .before .before .before .loop .inv .0 .on .left .log-size
 
 returns : tie.Need-returns Inv-loop μ-loop
-returns c = left-is (rw sub-zero at (going-done _ _ _ _ _ _ _ _ _ (c .before .before .before .before .loop .inv .0) (c .before .before .next-pair .ensures) (c .enum-told .given .1))) (rule-keys _ _ _ (c .before .before .before .before .before .before .before .before .pre .0 .few) _ (c .before .before .before .before .before .before .before .before .pre .0 .fits) _ _ _)
+returns c = rw (c .quiet .ensures) (left-is (rw sub-zero at (going-done _ _ _ _ _ _ _ _ _ (c .before .before .before .before .before .loop .inv .0) (c .before .before .before .next-pair .ensures) (c .before .enum-told .given .1))) (rule-keys _ _ _ (c .before .before .before .before .before .before .before .before .before .pre .0 .few) _ (c .before .before .before .before .before .before .before .before .before .pre .0 .fits) _ _ _))
 
 close-from-requires : tie.Need-close-from-requires Inv-loop μ-loop
 close-from-requires c κs =
@@ -91,22 +94,4 @@ loop-again c =
 pub close-rule-spec : {M : Type 1} → statement M
 close-rule-spec =
     tie.close
-    (tie.spec
-    Inv-loop
-    μ-loop
-    cast-end
-    mul-end
-    loop-holds
-    next-pair-requires
-    enum-known-found
-    enum-told
-    same-length
-    same-length-2
-    returns
-    close-from-requires
-    same-length-3
-    same-length-4
-    returns-2
-    add-after
-    loop-less
-    loop-again)
+    (tie.spec Inv-loop μ-loop cast-end mul-end loop-holds next-pair-requires enum-known-found enum-told quiet-requires same-length same-length-2 returns close-from-requires same-length-3 same-length-4 returns-2 add-after loop-less loop-again)

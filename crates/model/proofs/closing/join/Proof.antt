@@ -13,11 +13,14 @@ use Rattle.model.proofs.push.add_edge.Reads as add-edge-reads
 has-edge-requires : tie.Need-has-edge-requires
 has-edge-requires c κs = search needs
 
+quiet-requires : tie.Need-quiet-requires
+quiet-requires c κs = search needs
+
 same-length : tie.Need-same-length
 same-length c = search needs
 
 returns : tie.Need-returns
-returns c = left-is (left-same _ _ _ _ (c .before .before .before .before .before .pre .1 .0)) (sym (join-known _ _ _ _ _ _ _ (sym (c .before .has-edge .ensures) ∙ c .if1 .taken)))
+returns c = rw (c .quiet .ensures) (left-is (left-same _ _ _ _ (c .before .before .before .before .before .before .pre .1 .0)) (sym (join-known _ _ _ _ _ _ _ (sym (c .before .before .has-edge .ensures) ∙ c .before .if1 .taken))))
 
 add-edge-requires : tie.Need-add-edge-requires
 add-edge-requires c κs = search needs
@@ -36,11 +39,4 @@ returns-2 c =
 pub join-spec : {M : Type 1} → statement M
 join-spec =
     tie.close
-    (tie.spec
-    has-edge-requires
-    same-length
-    returns
-    add-edge-requires
-    same-length-2
-    same-length-3
-    returns-2)
+    (tie.spec has-edge-requires quiet-requires same-length returns add-edge-requires same-length-2 same-length-3 returns-2)

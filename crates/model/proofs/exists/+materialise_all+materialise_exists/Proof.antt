@@ -26,6 +26,7 @@ use Rattle.deck.proofs.numbers.RoleWord.is_inverse.Reads as is-inverse-reads
 use Rattle.deck.proofs.numbers.RoleWord.role_id.Reads as role-id-reads
 use Rattle.deck.proofs.rows.item.Reads as item-reads
 use Rattle.model.proofs.exists.reach_body.Reads as reach-body-reads
+use Rattle.model.proofs.tally.Step.quiet.Reads as quiet-reads
 use Rattle.model.proofs.exists.+materialise_all+materialise_exists.{statement}
 use Rattle.model.proofs.exists.+materialise_all+materialise_exists.Tie.{close}
 
@@ -48,10 +49,10 @@ abbrev materialise-exists-below : ℕ → In 6 materialise-exists-kinds.ps
 materialise-exists-below t = and 6 materialise-exists-kinds.ps (falls 6 materialise-exists-kinds.ps _<_ μ-materialise-exists t) materialise-exists.Pre
 
 abbrev materialise-all-claims : ℕ → materialise-all-lts.Claims
-materialise-all-claims t = (item-reads.Asked, item-reads.Learnt, materialise-exists-below t, materialise-exists.Post)
+materialise-all-claims t = (item-reads.Asked, item-reads.Learnt, materialise-exists-below t, materialise-exists.Post, quiet-reads.Asked, quiet-reads.Learnt)
 
 abbrev materialise-exists-claims : ℕ → materialise-exists-lts.Claims
-materialise-exists-claims t = (concept-at-reads.Asked, concept-at-reads.Learnt, materialise-all-below t, materialise-all.Post, is-inverse-reads.Asked, is-inverse-reads.Learnt, role-id-reads.Asked, role-id-reads.Learnt, reach-body-reads.Asked, reach-body-reads.Learnt)
+materialise-exists-claims t = (concept-at-reads.Asked, concept-at-reads.Learnt, materialise-all-below t, materialise-all.Post, is-inverse-reads.Asked, is-inverse-reads.Learnt, quiet-reads.Asked, quiet-reads.Learnt, role-id-reads.Asked, role-id-reads.Learnt, reach-body-reads.Asked, reach-body-reads.Learnt)
 
 abbrev materialise-all-Inv-loop : materialise-all-lts.InvT-loop
 materialise-all-Inv-loop deck bounds floor label₀ labels₀ edges₀ log₀ list e count i₀ held₀ label labels edges log i held =
@@ -105,24 +106,28 @@ materialise-all-loop-again t c =
     let q = operand (listOf (now (z .args .deck)) l) (c .before .before .before .before .before .before .before .before .before .before .before .before .before .before .before .before .loop .i) (omega (arith, c .before .before .before .before .before .before .before .before .before .before .before .before .before .before .before .loop-test .taken, list-length (now (z .args .deck)) (l .start) (l .count))) (c .before .before .before .before .before .before .before .before .before .before .before .before .before .before .item .ensures) in
     (omega (arith, c .before .before .before .before .before .before .before .before .before .before .before .before .before .before .before .loop-test .taken), c .before .before .before .before .before .before .before .before .before .materialise-exists .kept .1 .1 .1 .1 .0 ∙ c .before .before .before .before .before .before .before .before .before .before .before .before .before .before .before .before .loop .inv .1, model-next (c .before .before .before .before .before .before .before .before .before .before .before .before .before .before .before .before .loop .inv .2) q (c .before .before .before .before .before .before .before .before .before .materialise-exists .ensures) (c .before .if1 .left))
 
+materialise-all-quiet-requires : (t : ℕ) → materialise-all-lts.Need-quiet-requires (materialise-all-claims t) (materialise-all-at t) materialise-all.Post materialise-all-Inv-loop materialise-all-μ-loop
+materialise-all-quiet-requires t c κs = search needs
+
 materialise-all-same-length-5 : (t : ℕ) → materialise-all-lts.Need-same-length-5 (materialise-all-claims t) (materialise-all-at t) materialise-all.Post materialise-all-Inv-loop materialise-all-μ-loop
-materialise-all-same-length-5 t c = let z = c .before .before .before .before .before .before .before in c .before .loop .inv .2 .built .wide ∙ sym (z .pre .1 .0 .label-wide)
+materialise-all-same-length-5 t c = let z = c .before .before .before .before .before .before .before .before in c .before .before .loop .inv .2 .built .wide ∙ sym (z .pre .1 .0 .label-wide)
 
 materialise-all-same-length-6 : (t : ℕ) → materialise-all-lts.Need-same-length-6 (materialise-all-claims t) (materialise-all-at t) materialise-all.Post materialise-all-Inv-loop materialise-all-μ-loop
-materialise-all-same-length-6 t c = c .before .loop .inv .1
+materialise-all-same-length-6 t c = c .before .before .loop .inv .1
 
 materialise-all-same-length-7 : (t : ℕ) → materialise-all-lts.Need-same-length-7 (materialise-all-claims t) (materialise-all-at t) materialise-all.Post materialise-all-Inv-loop materialise-all-μ-loop
-materialise-all-same-length-7 t c = c .before .loop .inv .2 .built .left .size
+materialise-all-same-length-7 t c = c .before .before .loop .inv .2 .built .left .size
 
 materialise-all-same-length-8 : (t : ℕ) → materialise-all-lts.Need-same-length-8 (materialise-all-claims t) (materialise-all-at t) materialise-all.Post materialise-all-Inv-loop materialise-all-μ-loop
-materialise-all-same-length-8 t c = c .before .loop .inv .2 .built .left .log-size
+materialise-all-same-length-8 t c = c .before .before .loop .inv .2 .built .left .log-size
 
 materialise-all-returns-2 : (t : ℕ) → materialise-all-lts.Need-returns-2 (materialise-all-claims t) (materialise-all-at t) materialise-all.Post materialise-all-Inv-loop materialise-all-μ-loop
 materialise-all-returns-2 t c =
-    let z = c .before .before .before .before .before .before .before in
+    rw (c .quiet .ensures)
+    (let z = c .before .before .before .before .before .before .before .before in
     let l = z .args .list in
-    let h : length (listOf (now (z .args .deck)) l) ≤ c .before .loop .i = omega (arith, list-length (now (z .args .deck)) (l .start) (l .count)) in
-    model-done (c .before .loop .inv .2) (drop-of-length-le (listOf (now (z .args .deck)) l) h)
+    let h : length (listOf (now (z .args .deck)) l) ≤ c .before .before .loop .i = omega (arith, list-length (now (z .args .deck)) (l .start) (l .count)) in
+    model-done (c .before .before .loop .inv .2) (drop-of-length-le (listOf (now (z .args .deck)) l) h))
 
 abbrev materialise-exists-Inv-loop : materialise-exists-lts.InvT-loop
 materialise-exists-Inv-loop deck bounds floor label₀ labels₀ edges₀ log₀ held₀ c₀ e₀ label labels edges log held c e =
@@ -167,23 +172,27 @@ materialise-exists-enum-known-expr-2 t c = search needs
 materialise-exists-is-inverse-requires : (t : ℕ) → materialise-exists-lts.Need-is-inverse-requires (materialise-exists-claims t) (materialise-exists-at t) materialise-exists.Post materialise-exists-Inv-loop materialise-exists-μ-loop
 materialise-exists-is-inverse-requires t c κs = search needs
 
+materialise-exists-quiet-requires : (t : ℕ) → materialise-exists-lts.Need-quiet-requires (materialise-exists-claims t) (materialise-exists-at t) materialise-exists.Post materialise-exists-Inv-loop materialise-exists-μ-loop
+materialise-exists-quiet-requires t c κs = search needs
+
 materialise-exists-same-length-5 : (t : ℕ) → materialise-exists-lts.Need-same-length-5 (materialise-exists-claims t) (materialise-exists-at t) materialise-exists.Post materialise-exists-Inv-loop materialise-exists-μ-loop
-materialise-exists-same-length-5 t c = c .before .before .before .before .before .before .loop .inv .1 .built .wide ∙ sym (c .before .before .before .before .before .before .before .before .before .before .before .before .pre .1 .0 .label-wide)
+materialise-exists-same-length-5 t c = c .before .before .before .before .before .before .before .loop .inv .1 .built .wide ∙ sym (c .before .before .before .before .before .before .before .before .before .before .before .before .before .pre .1 .0 .label-wide)
 
 materialise-exists-same-length-6 : (t : ℕ) → materialise-exists-lts.Need-same-length-6 (materialise-exists-claims t) (materialise-exists-at t) materialise-exists.Post materialise-exists-Inv-loop materialise-exists-μ-loop
-materialise-exists-same-length-6 t c = c .before .before .before .before .before .before .loop .inv .0
+materialise-exists-same-length-6 t c = c .before .before .before .before .before .before .before .loop .inv .0
 
 materialise-exists-same-length-7 : (t : ℕ) → materialise-exists-lts.Need-same-length-7 (materialise-exists-claims t) (materialise-exists-at t) materialise-exists.Post materialise-exists-Inv-loop materialise-exists-μ-loop
-materialise-exists-same-length-7 t c = c .before .before .before .before .before .before .loop .inv .1 .built .left .size
+materialise-exists-same-length-7 t c = c .before .before .before .before .before .before .before .loop .inv .1 .built .left .size
 
 materialise-exists-same-length-8 : (t : ℕ) → materialise-exists-lts.Need-same-length-8 (materialise-exists-claims t) (materialise-exists-at t) materialise-exists.Post materialise-exists-Inv-loop materialise-exists-μ-loop
-materialise-exists-same-length-8 t c = c .before .before .before .before .before .before .loop .inv .1 .built .left .log-size
+materialise-exists-same-length-8 t c = c .before .before .before .before .before .before .before .loop .inv .1 .built .left .log-size
 
 materialise-exists-returns-2 : (t : ℕ) → materialise-exists-lts.Need-returns-2 (materialise-exists-claims t) (materialise-exists-at t) materialise-exists.Post materialise-exists-Inv-loop materialise-exists-μ-loop
 materialise-exists-returns-2 t c =
-    let P = c .before .before .before .before .before .before .before .before .before .before .before .before .pre .1 .0 in
-    let G = c .before .before .before .before .before .before .loop .inv .1 in
-    descending-ends G (inverse-leaves _ (P .accepted) (c .before .before .before .before .before .before .loop .c .0) (c .before .before .before .before .before .concept-at .ensures) _ _ _ _ _ _ _ (c .before .before .before .expr2 .given .1) (sym (c .before .is-inverse .ensures) ∙ c .if1 .taken) (prepared-after P (G .built) refl))
+    rw (c .quiet .ensures)
+    (let P = c .before .before .before .before .before .before .before .before .before .before .before .before .before .pre .1 .0 in
+    let G = c .before .before .before .before .before .before .before .loop .inv .1 in
+    descending-ends G (inverse-leaves _ (P .accepted) (c .before .before .before .before .before .before .before .loop .c .0) (c .before .before .before .before .before .before .concept-at .ensures) _ _ _ _ _ _ _ (c .before .before .before .before .expr2 .given .1) (sym (c .before .before .is-inverse .ensures) ∙ c .before .if1 .taken) (prepared-after P (G .built) refl)))
 
 materialise-exists-role-id-requires : (t : ℕ) → materialise-exists-lts.Need-role-id-requires (materialise-exists-claims t) (materialise-exists-at t) materialise-exists.Post materialise-exists-Inv-loop materialise-exists-μ-loop
 materialise-exists-role-id-requires t c κs = search needs
@@ -221,23 +230,27 @@ materialise-exists-loop-again t c =
     let u = c .before .before .if2 .left in
     (c .before .before .before .before .before .before .before .before .before .before .before .reach-body .kept .1 .1 .1 .1 .0 ∙ c .before .before .before .before .before .before .before .before .before .before .before .before .before .before .before .before .before .before .before .before .before .before .before .loop .inv .0, descending-next (c .before .before .before .before .before .before .before .before .before .before .before .before .before .before .before .before .before .before .before .before .before .before .before .loop .inv .1) X u (fits-read _ A (c .before .before .before .before .before .before .before .before .before .before .before .before .before .before .before .before .before .before .before .before .before .before .before .loop .c .0) R _ (c .before .before .before .before .before .before .before .before .before .before .before .before .before .before .before .before .before .before .before .before .expr2 .given .1) .1) (some-goes _ A (c .before .before .before .before .before .before .before .before .before .before .before .before .before .before .before .before .before .before .before .before .before .before .before .loop .c .0) R _ _ _ _ _ _ _ (c .before .before .before .before .before .before .before .before .before .before .before .before .before .before .before .before .before .before .before .before .expr2 .given .1) (sym (c .before .before .before .before .before .before .before .before .before .before .before .before .before .before .before .before .before .before .is-inverse .ensures) ∙ c .before .before .before .before .before .before .before .before .before .before .before .before .before .before .before .before .before .if1 .left) (c .before .before .before .before .before .before .before .before .before .before .before .before .before .before .before .before .role-id .ensures) X u (c .before .before .before .before .before .before .before .before .before .before .before .reach-body .ensures .1)))
 
+materialise-exists-quiet-requires-2 : (t : ℕ) → materialise-exists-lts.Need-quiet-requires-2 (materialise-exists-claims t) (materialise-exists-at t) materialise-exists.Post materialise-exists-Inv-loop materialise-exists-μ-loop
+materialise-exists-quiet-requires-2 t c κs = search needs
+
 materialise-exists-same-length-13 : (t : ℕ) → materialise-exists-lts.Need-same-length-13 (materialise-exists-claims t) (materialise-exists-at t) materialise-exists.Post materialise-exists-Inv-loop materialise-exists-μ-loop
-materialise-exists-same-length-13 t c = c .before .before .loop .inv .1 .built .wide ∙ sym (c .before .before .before .before .before .before .before .before .pre .1 .0 .label-wide)
+materialise-exists-same-length-13 t c = c .before .before .before .loop .inv .1 .built .wide ∙ sym (c .before .before .before .before .before .before .before .before .before .pre .1 .0 .label-wide)
 
 materialise-exists-same-length-14 : (t : ℕ) → materialise-exists-lts.Need-same-length-14 (materialise-exists-claims t) (materialise-exists-at t) materialise-exists.Post materialise-exists-Inv-loop materialise-exists-μ-loop
-materialise-exists-same-length-14 t c = c .before .before .loop .inv .0
+materialise-exists-same-length-14 t c = c .before .before .before .loop .inv .0
 
 materialise-exists-same-length-15 : (t : ℕ) → materialise-exists-lts.Need-same-length-15 (materialise-exists-claims t) (materialise-exists-at t) materialise-exists.Post materialise-exists-Inv-loop materialise-exists-μ-loop
-materialise-exists-same-length-15 t c = c .before .before .loop .inv .1 .built .left .size
+materialise-exists-same-length-15 t c = c .before .before .before .loop .inv .1 .built .left .size
 
 materialise-exists-same-length-16 : (t : ℕ) → materialise-exists-lts.Need-same-length-16 (materialise-exists-claims t) (materialise-exists-at t) materialise-exists.Post materialise-exists-Inv-loop materialise-exists-μ-loop
-materialise-exists-same-length-16 t c = c .before .before .loop .inv .1 .built .left .log-size
+materialise-exists-same-length-16 t c = c .before .before .before .loop .inv .1 .built .left .log-size
 
 materialise-exists-returns-4 : (t : ℕ) → materialise-exists-lts.Need-returns-4 (materialise-exists-claims t) (materialise-exists-at t) materialise-exists.Post materialise-exists-Inv-loop materialise-exists-μ-loop
 materialise-exists-returns-4 t c =
-    let P = c .before .before .before .before .before .before .before .before .pre .1 .0 in
-    let G = c .before .before .loop .inv .1 in
-    descending-ends G (other-leaves _ (P .accepted) (c .before .before .loop .c .0) (c .before .concept-at .ensures) _ _ _ _ _ (c .match .keys3) (prepared-after P (G .built) refl))
+    rw (c .quiet2 .ensures)
+    (let P = c .before .before .before .before .before .before .before .before .before .pre .1 .0 in
+    let G = c .before .before .before .loop .inv .1 in
+    descending-ends G (other-leaves _ (P .accepted) (c .before .before .before .loop .c .0) (c .before .before .concept-at .ensures) _ _ _ _ _ (c .before .match .keys3) (prepared-after P (G .built) refl)))
 
 pub +materialise-all+materialise-exists-spec : {M : Type 1} → statement M
 +materialise-all+materialise-exists-spec =
@@ -257,6 +270,7 @@ pub +materialise-all+materialise-exists-spec : {M : Type 1} → statement M
     (materialise-all-add-i t)
     (materialise-all-loop-less t)
     (materialise-all-loop-again t)
+    (materialise-all-quiet-requires t)
     (materialise-all-same-length-5 t)
     (materialise-all-same-length-6 t)
     (materialise-all-same-length-7 t)
@@ -278,6 +292,7 @@ pub +materialise-all+materialise-exists-spec : {M : Type 1} → statement M
     (materialise-exists-returns t)
     (materialise-exists-enum-known-expr-2 t)
     (materialise-exists-is-inverse-requires t)
+    (materialise-exists-quiet-requires t)
     (materialise-exists-same-length-5 t)
     (materialise-exists-same-length-6 t)
     (materialise-exists-same-length-7 t)
@@ -292,6 +307,7 @@ pub +materialise-all+materialise-exists-spec : {M : Type 1} → statement M
     (materialise-exists-returns-3 t)
     (materialise-exists-loop-less t)
     (materialise-exists-loop-again t)
+    (materialise-exists-quiet-requires-2 t)
     (materialise-exists-same-length-13 t)
     (materialise-exists-same-length-14 t)
     (materialise-exists-same-length-15 t)

@@ -30,22 +30,16 @@ same-length-4 c = search needs
 returns : tie.Need-returns
 returns c = built-is (c .before .before .before .before .before .before .before .work-facts .ensures) (sym (class-yes _ _ _ _ _ _ (label-member _ _ _ _ _ (c .before .before .before .before .before .before .before .before .before .before .before .before .before .before .before .before .before .before .before .before .pre .1 .0) (omega (arith, c .before .before .before .before .before .before .before .before .before .before .before .before .before .before .before .before .before .before .before .before .pre .1 .1)) ∙ sym (c .before .before .before .before .before .before .before .before .before .before .before .before .before .has-class .ensures) ∙ c .before .before .before .before .before .before .before .before .before .before .before .before .if1 .taken)))
 
+quiet-requires : tie.Need-quiet-requires
+quiet-requires c κs = search needs
+
 same-length-5 : tie.Need-same-length-5
 same-length-5 c = search needs
 
 returns-2 : tie.Need-returns-2
-returns-2 c = built-is (built-same (c .before .before .before .before .before .before .before .before .pre .0)) (sym (class-no _ _ _ _ _ _ (label-member _ _ _ _ _ (c .before .before .before .before .before .before .before .before .pre .1 .0) (omega (arith, c .before .before .before .before .before .before .before .before .pre .1 .1)) ∙ sym (c .before .has-class .ensures) ∙ c .if1 .left)))
+returns-2 c = rw (c .quiet .ensures) (built-is (built-same (c .before .before .before .before .before .before .before .before .before .pre .0)) (sym (class-no _ _ _ _ _ _ (label-member _ _ _ _ _ (c .before .before .before .before .before .before .before .before .before .pre .1 .0) (omega (arith, c .before .before .before .before .before .before .before .before .before .pre .1 .1)) ∙ sym (c .before .before .has-class .ensures) ∙ c .before .if1 .left))))
 
 pub class-step-spec : {M : Type 1} → statement M
 class-step-spec =
     tie.close
-    (tie.spec
-    has-class-requires
-    work-facts-requires
-    same-length
-    same-length-2
-    same-length-3
-    same-length-4
-    returns
-    same-length-5
-    returns-2)
+    (tie.spec has-class-requires work-facts-requires same-length same-length-2 same-length-3 same-length-4 returns quiet-requires same-length-5 returns-2)

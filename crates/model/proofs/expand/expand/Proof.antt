@@ -1,3 +1,4 @@
+use borrow.Author.Needs.{needs}
 use Prim.Native.Nat.{_+_, _-_}
 use mathlib.Core.Path.{_≡_, refl, sym, _∙_}
 use native.Mathlib.Omega.{arith}
@@ -30,20 +31,23 @@ slice-aggregate-highest-untaken c = sym (c .before .loop .inv .0 .size)
 highest-untaken-requires : tie.Need-highest-untaken-requires Inv-loop μ-loop
 highest-untaken-requires c κs = omega (arith, c .before .loop .inv .0 .size, c .before .loop .inv .1 .few, c .before .loop .inv .1 .most)
 
+quiet-requires : tie.Need-quiet-requires Inv-loop μ-loop
+quiet-requires c κs = search needs
+
 same-length : tie.Need-same-length Inv-loop μ-loop
-same-length c = c .before .before .before .loop .inv .1 .label-wide ∙ sym (c .before .before .before .before .before .before .before .before .before .pre .label-wide)
+same-length c = c .before .before .before .before .loop .inv .1 .label-wide ∙ sym (c .before .before .before .before .before .before .before .before .before .before .pre .label-wide)
 
 same-length-2 : tie.Need-same-length-2 Inv-loop μ-loop
-same-length-2 c = built-size (c .before .before .before .before .before .before .before .before .before .pre) (c .before .before .before .loop .inv .0 .built)
+same-length-2 c = built-size (c .before .before .before .before .before .before .before .before .before .before .pre) (c .before .before .before .before .loop .inv .0 .built)
 
 same-length-3 : tie.Need-same-length-3 Inv-loop μ-loop
-same-length-3 c = c .before .before .before .loop .inv .0 .built .left .size
+same-length-3 c = c .before .before .before .before .loop .inv .0 .built .left .size
 
 same-length-4 : tie.Need-same-length-4 Inv-loop μ-loop
-same-length-4 c = c .before .before .before .loop .inv .0 .built .left .log-size
+same-length-4 c = c .before .before .before .before .loop .inv .0 .built .left .log-size
 
 returns : tie.Need-returns Inv-loop μ-loop
-returns c = taking-done (c .before .before .before .loop .inv .0) (c .before .highest-untaken .ensures) (c .if1 .taken)
+returns c = rw (c .quiet .ensures) (taking-done (c .before .before .before .before .loop .inv .0) (c .before .before .highest-untaken .ensures) (c .before .if1 .taken))
 
 slice-aggregate-insert-bit : tie.Need-slice-aggregate-insert-bit Inv-loop μ-loop
 slice-aggregate-insert-bit c = sym (c .before .before .before .before .loop .inv .0 .size)
@@ -84,26 +88,4 @@ loop-again c = (taking-next (c .before .before .before .before .before .before .
 pub expand-spec : {M : Type 1} → statement M
 expand-spec =
     tie.close
-    (tie.spec
-    Inv-loop
-    μ-loop
-    loop-holds
-    slice-aggregate-highest-untaken
-    highest-untaken-requires
-    same-length
-    same-length-2
-    same-length-3
-    same-length-4
-    returns
-    slice-aggregate-insert-bit
-    sub-insert-bit
-    insert-bit-requires
-    sub-t20
-    work-classes-requires
-    same-length-5
-    same-length-6
-    same-length-7
-    same-length-8
-    returns-2
-    loop-less
-    loop-again)
+    (tie.spec Inv-loop μ-loop loop-holds slice-aggregate-highest-untaken highest-untaken-requires quiet-requires same-length same-length-2 same-length-3 same-length-4 returns slice-aggregate-insert-bit sub-insert-bit insert-bit-requires sub-t20 work-classes-requires same-length-5 same-length-6 same-length-7 same-length-8 returns-2 loop-less loop-again)

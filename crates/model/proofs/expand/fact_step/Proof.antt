@@ -14,8 +14,11 @@ use Rattle.model.proofs.target_label.target_label.Reads as target-label
 fact-at-requires : tie.Need-fact-at-requires
 fact-at-requires c κs = search needs
 
+quiet-requires : tie.Need-quiet-requires
+quiet-requires c κs = search needs
+
 returns : tie.Need-returns
-returns c = built-is (built-same (c .before .before .before .before .before .before .before .before .before .pre .0)) (sym (fact-other _ _ _ _ _ _ _ (λ q. c .if1 .taken (ap (λ (f : Fact). f .from) (c .before .before .before .fact-at .ensures .is) ∙ q))))
+returns c = rw (c .quiet .ensures) (built-is (built-same (c .before .before .before .before .before .before .before .before .before .before .pre .0)) (sym (fact-other _ _ _ _ _ _ _ (λ q. c .before .if1 .taken (ap (λ (f : Fact). f .from) (c .before .before .before .before .fact-at .ensures .is) ∙ q)))))
 
 target-label-requires : tie.Need-target-label-requires
 target-label-requires c κs = (c .before .before .before .before .before .before .before .before .before .before .before .pre .0 .accepted, (c .before .before .before .before .before .fact-at .ensures .fits .to, c .before .before .before .before .before .fact-at .ensures .fits .role))
@@ -41,13 +44,4 @@ returns-2 c = built-is (c .before .before .before .before .before .before .befor
 pub fact-step-spec : {M : Type 1} → statement M
 fact-step-spec =
     tie.close
-    (tie.spec
-    fact-at-requires
-    returns
-    target-label-requires
-    link-target-requires
-    same-length
-    same-length-2
-    same-length-3
-    same-length-4
-    returns-2)
+    (tie.spec fact-at-requires quiet-requires returns target-label-requires link-target-requires same-length same-length-2 same-length-3 same-length-4 returns-2)

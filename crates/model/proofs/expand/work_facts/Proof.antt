@@ -1,3 +1,4 @@
+use borrow.Author.Needs.{needs}
 use Prim.Native.Nat.{_-_, _≤_}
 use mathlib.Core.Path.{sym, _∙_}
 use native.Mathlib.Omega.{arith}
@@ -58,41 +59,26 @@ loop-less c = omega arith
 loop-again : tie.Need-loop-again Inv-loop μ-loop
 loop-again c = (omega arith, (model-next (c .before .before .before .before .before .before .before .before .before .before .before .before .before .before .before .loop .inv .1 .0) (list-step noFact (deckOf (now (c .before .before .before .before .before .before .before .before .before .before .before .before .before .before .before .before .before .before .before .before .before .before .args .deck)) .facts) (c .before .before .before .before .before .before .before .before .before .before .before .before .before .before .before .loop .i) (omega (arith, c .before .before .before .before .before .before .before .before .before .before .before .before .before .before .before .before .fact-count .ensures .is))) (c .before .before .before .before .before .before .before .before .before .fact-step .ensures) (c .before .if1 .left), prepared-after (c .before .before .before .before .before .before .before .before .before .before .before .before .before .before .before .loop .inv .1 .1) (c .before .before .before .before .before .before .before .before .before .fact-step .ensures) (c .before .if1 .left)))
 
+quiet-requires : tie.Need-quiet-requires Inv-loop μ-loop
+quiet-requires c κs = search needs
+
 same-length-5 : tie.Need-same-length-5 Inv-loop μ-loop
-same-length-5 c = c .before .loop .inv .1 .1 .label-wide ∙ sym (c .before .before .before .before .before .before .before .before .pre .label-wide)
+same-length-5 c = c .before .before .loop .inv .1 .1 .label-wide ∙ sym (c .before .before .before .before .before .before .before .before .before .pre .label-wide)
 
 same-length-6 : tie.Need-same-length-6 Inv-loop μ-loop
-same-length-6 c = built-size (c .before .before .before .before .before .before .before .before .pre) (c .before .loop .inv .1 .0 .built)
+same-length-6 c = built-size (c .before .before .before .before .before .before .before .before .before .pre) (c .before .before .loop .inv .1 .0 .built)
 
 same-length-7 : tie.Need-same-length-7 Inv-loop μ-loop
-same-length-7 c = c .before .loop .inv .1 .0 .built .left .size
+same-length-7 c = c .before .before .loop .inv .1 .0 .built .left .size
 
 same-length-8 : tie.Need-same-length-8 Inv-loop μ-loop
-same-length-8 c = c .before .loop .inv .1 .0 .built .left .log-size
+same-length-8 c = c .before .before .loop .inv .1 .0 .built .left .log-size
 
 returns-2 : tie.Need-returns-2 Inv-loop μ-loop
 unfolding workFacts
-returns-2 c = model-done (c .before .loop .inv .1 .0) (drop-of-length-le (deckOf (now (c .before .before .before .before .before .before .before .before .args .deck)) .facts) {i = c .before .loop .i} (omega (arith, c .before .before .fact-count .ensures .is)))
+returns-2 c = rw (c .quiet .ensures) (model-done (c .before .before .loop .inv .1 .0) (drop-of-length-le (deckOf (now (c .before .before .before .before .before .before .before .before .before .args .deck)) .facts) {i = c .before .before .loop .i} (omega (arith, c .before .before .before .fact-count .ensures .is))))
 
 pub work-facts-spec : {M : Type 1} → statement M
 work-facts-spec =
     tie.close
-    (tie.spec
-    Inv-loop
-    μ-loop
-    fact-count-requires
-    loop-holds
-    fact-step-requires
-    same-length
-    same-length-2
-    same-length-3
-    same-length-4
-    returns
-    add-i
-    loop-less
-    loop-again
-    same-length-5
-    same-length-6
-    same-length-7
-    same-length-8
-    returns-2)
+    (tie.spec Inv-loop μ-loop fact-count-requires loop-holds fact-step-requires same-length same-length-2 same-length-3 same-length-4 returns add-i loop-less loop-again quiet-requires same-length-5 same-length-6 same-length-7 same-length-8 returns-2)

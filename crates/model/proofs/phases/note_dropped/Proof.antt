@@ -13,6 +13,9 @@ dropped-count-requires c κs = c .before .before .pre
 returns : tie.Need-returns
 returns c = dropped-none _ _ _ (sym (c .before .dropped-count .ensures) ∙ c .if1 .taken)
 
+axioms-dropped-requires : tie.Need-axioms-dropped-requires
+axioms-dropped-requires c κs = search needs
+
 note-requires : tie.Need-note-requires
 note-requires c κs = search needs
 
@@ -20,14 +23,9 @@ same-length : tie.Need-same-length
 same-length c = c .before .before .note .kept .0
 
 returns-2 : tie.Need-returns-2
-returns-2 c = dropped-some _ _ _ (c .before .before .before .before .before .dropped-count .ensures) (c .before .before .before .before .if1 .left) (c .before .before .note .ensures .0) (c .before .before .note .ensures .1)
+returns-2 c = dropped-some _ _ _ (c .before .before .before .before .before .before .dropped-count .ensures) (c .before .before .before .before .before .if1 .left) (rw (c .before .before .before .before .axioms-dropped .ensures) at (c .before .before .note .ensures .0)) (c .before .before .note .ensures .1)
 
 pub note-dropped-spec : {M : Type 1} → statement M
 note-dropped-spec =
     tie.close
-    (tie.spec
-    dropped-count-requires
-    returns
-    note-requires
-    same-length
-    returns-2)
+    (tie.spec dropped-count-requires returns axioms-dropped-requires note-requires same-length returns-2)

@@ -11,11 +11,14 @@ use Rattle.model.proofs.push.is_known.Reads as is-known-reads
 is-known-requires : tie.Need-is-known-requires
 is-known-requires c κs = search needs
 
+quiet-requires : tie.Need-quiet-requires
+quiet-requires c κs = search needs
+
 same-length : tie.Need-same-length
 same-length c = search needs
 
 returns : tie.Need-returns
-returns c = left-known _ _ _ _ _ (c .before .before .before .before .pre) (sym (c .before .is-known .ensures) ∙ c .if1 .taken)
+returns c = rw (c .quiet .ensures) (left-known _ _ _ _ _ (c .before .before .before .before .before .pre) (sym (c .before .before .is-known .ensures) ∙ c .before .if1 .taken))
 
 add-edge-requires : tie.Need-add-edge-requires
 add-edge-requires c κs = search needs
@@ -32,11 +35,4 @@ returns-2 c = left-new _ _ _ _ _ (c .before .before .before .before .before .bef
 pub push-edge-spec : {M : Type 1} → statement M
 push-edge-spec =
     tie.close
-    (tie.spec
-    is-known-requires
-    same-length
-    returns
-    add-edge-requires
-    same-length-2
-    same-length-3
-    returns-2)
+    (tie.spec is-known-requires quiet-requires same-length returns add-edge-requires same-length-2 same-length-3 returns-2)

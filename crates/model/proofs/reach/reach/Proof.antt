@@ -17,6 +17,9 @@ use Rattle.model.proofs.reasons.note.Reads as note-reads
 intern-requires : tie.Need-intern-requires
 intern-requires c κs = let P = c .before .before .before .before .before .before .before .pre in (P .accepted, (P .floor-wide, (P .label-wide, (next-fits P, omega (arith, P .few, P .most)))))
 
+bound-tripped-requires : tie.Need-bound-tripped-requires
+bound-tripped-requires c κs = search needs
+
 note-requires : tie.Need-note-requires
 note-requires c κs = search needs
 
@@ -31,10 +34,10 @@ same-length-3 c = search needs
 
 returns : tie.Need-returns
 returns c =
-    let P = c .before .before .before .before .before .before .before .before .before .before .before .before .before .before .before .before .before .before .before .pre in
-    let I = c .before .before .before .before .before .before .before .before .before .before .before .intern .ensures in
+    let P = c .before .before .before .before .before .before .before .before .before .before .before .before .before .before .before .before .before .before .before .before .pre in
+    let I = c .before .before .before .before .before .before .before .before .before .before .before .before .intern .ensures in
     let w = length-floored _ _ _ ∙ P .label-wide in
-    (reach-full P w (I .0) (ap length (I .1) ∙ w) _ _ (c .before .before .before .before .if1 .taken) (c .before .before .note .ensures .0) (c .before .before .note .ensures .1), I .0 .place)
+    (reach-full P w (I .0) (ap length (I .1) ∙ w) _ _ (c .before .before .before .before .before .if1 .taken) (rw (c .before .before .before .before .bound-tripped .ensures) at (c .before .before .note .ensures .0)) (c .before .before .note .ensures .1), I .0 .place)
 
 push-edge-requires : tie.Need-push-edge-requires
 push-edge-requires c κs = c .before .before .before .before .before .before .before .before .before .before .before .before .before .before .before .before .before .pre .space
@@ -61,16 +64,4 @@ returns-2 c =
 pub reach-spec : {M : Type 1} → statement M
 reach-spec =
     tie.close
-    (tie.spec
-    intern-requires
-    note-requires
-    same-length
-    same-length-2
-    same-length-3
-    returns
-    push-edge-requires
-    same-length-4
-    same-length-5
-    same-length-6
-    same-length-7
-    returns-2)
+    (tie.spec intern-requires bound-tripped-requires note-requires same-length same-length-2 same-length-3 returns push-edge-requires same-length-4 same-length-5 same-length-6 same-length-7 returns-2)

@@ -21,6 +21,9 @@ fire-equivalent-requires c κs =
     let f = axiom-fits _ _ (c .before .before .before .before .before .axiom-at .ensures) 1 (c .before .before .before .before .match .keys2) in
     (z .pre .0, (f .0, z .pre .1 .1))
 
+quiet-requires : tie.Need-quiet-requires
+quiet-requires c κs = search needs
+
 same-length : tie.Need-same-length
 same-length c = search needs
 
@@ -52,23 +55,9 @@ returns-2 : tie.Need-returns-2
 returns-2 c = built-is (c .before .before .before .before .before .before .before .fire-equivalent .ensures) (equivalent-fires (c .before .before .before .before .before .before .before .before .before .before .before .before .before .axiom-at .ensures) _ _ _ _ (c .before .before .before .before .before .before .before .before .before .before .before .before .match .keys2))
 
 returns-3 : tie.Need-returns-3
-returns-3 c = built-is (built-same (c .before .before .before .before .before .before .before .pre .0)) (other-fires (c .before .axiom-at .ensures) _ _ _ _ (at-least (c .before .axiom-at .result .tag) 2 (c .match .rest)))
+returns-3 c = rw (c .quiet .ensures) (built-is (built-same (c .before .before .before .before .before .before .before .before .pre .0)) (other-fires (c .before .before .axiom-at .ensures) _ _ _ _ (at-least (c .before .before .axiom-at .result .tag) 2 (c .before .match .rest))))
 
 pub fire-axiom-spec : {M : Type 1} → statement M
 fire-axiom-spec =
     tie.close
-    (tie.spec
-    axiom-at-requires
-    fire-requires
-    fire-equivalent-requires
-    same-length
-    same-length-2
-    same-length-3
-    same-length-4
-    returns
-    same-length-5
-    same-length-6
-    same-length-7
-    same-length-8
-    returns-2
-    returns-3)
+    (tie.spec axiom-at-requires fire-requires fire-equivalent-requires quiet-requires same-length same-length-2 same-length-3 same-length-4 returns same-length-5 same-length-6 same-length-7 same-length-8 returns-2 returns-3)

@@ -1,3 +1,4 @@
+use borrow.Author.Needs.{needs}
 use Prim.Native.Nat.{_-_, _≤_}
 use mathlib.Core.Path.{refl, sym, _∙_}
 use native.Mathlib.Omega.{arith}
@@ -67,44 +68,29 @@ loop-again c =
     let h = c .before .before .before .before .before .before .before .before .before .before .before .before .before .before .before .loop-test .taken in
     (omega (arith, h), model-next (turn .inv .1) (list-step 0 (listOf (now (z .args .deck)) (z .args .list)) (turn .i) (omega (arith, h, list-length (now (z .args .deck)) (z .args .list .start) (z .args .list .count)))) (rw (c .before .before .before .before .before .before .before .before .before .before .item .ensures) at (c .before .before .before .before .before .before .before .before .before .fire-pair .ensures)) (c .before .if1 .left))
 
+quiet-requires : tie.Need-quiet-requires Inv-loop μ-loop
+quiet-requires c κs = search needs
+
 same-length-5 : tie.Need-same-length-5 Inv-loop μ-loop
-same-length-5 c = c .before .loop .inv .1 .built .wide ∙ sym (c .before .before .before .before .before .before .before .pre .0 .label-wide)
+same-length-5 c = c .before .before .loop .inv .1 .built .wide ∙ sym (c .before .before .before .before .before .before .before .before .pre .0 .label-wide)
 
 same-length-6 : tie.Need-same-length-6 Inv-loop μ-loop
-same-length-6 c = labels-size (c .before .before .before .before .before .before .before .pre .0) (c .before .loop .inv .1 .built)
+same-length-6 c = labels-size (c .before .before .before .before .before .before .before .before .pre .0) (c .before .before .loop .inv .1 .built)
 
 same-length-7 : tie.Need-same-length-7 Inv-loop μ-loop
-same-length-7 c = c .before .loop .inv .1 .built .left .size
+same-length-7 c = c .before .before .loop .inv .1 .built .left .size
 
 same-length-8 : tie.Need-same-length-8 Inv-loop μ-loop
-same-length-8 c = c .before .loop .inv .1 .built .left .log-size
+same-length-8 c = c .before .before .loop .inv .1 .built .left .log-size
 
 returns-2 : tie.Need-returns-2 Inv-loop μ-loop
 unfolding fireFrom
-returns-2 c =
-    let z = c .before .before .before .before .before .before .before in
-    let turn = c .before .loop in
-    model-done (turn .inv .1) (drop-of-length-le (listOf (now (z .args .deck)) (z .args .list)) {i = turn .i} (omega (arith, list-length (now (z .args .deck)) (z .args .list .start) (z .args .list .count))))
+returns-2 c = rw (c .quiet .ensures) (
+    let z = c .before .before .before .before .before .before .before .before in
+    let turn = c .before .before .loop in
+    model-done (turn .inv .1) (drop-of-length-le (listOf (now (z .args .deck)) (z .args .list)) {i = turn .i} (omega (arith, list-length (now (z .args .deck)) (z .args .list .start) (z .args .list .count)))))
 
 pub fire-from-spec : {M : Type 1} → statement M
 fire-from-spec =
     tie.close
-    (tie.spec
-    Inv-loop
-    μ-loop
-    loop-holds
-    item-requires
-    fire-pair-requires
-    same-length
-    same-length-2
-    same-length-3
-    same-length-4
-    returns
-    add-i
-    loop-less
-    loop-again
-    same-length-5
-    same-length-6
-    same-length-7
-    same-length-8
-    returns-2)
+    (tie.spec Inv-loop μ-loop loop-holds item-requires fire-pair-requires same-length same-length-2 same-length-3 same-length-4 returns add-i loop-less loop-again quiet-requires same-length-5 same-length-6 same-length-7 same-length-8 returns-2)

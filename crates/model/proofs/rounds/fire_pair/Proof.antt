@@ -4,8 +4,11 @@ use borrow.Author.Needs.{needs}
 use Rattle.model.proofs.rounds.fire_pair.Statement.{statement}
 use Rattle.model.proofs.rounds.fire_pair.Tie as tie
 
+quiet-requires : tie.Need-quiet-requires
+quiet-requires c κs = search needs
+
 returns : tie.Need-returns
-returns c = built-is (built-same (c .before .before .before .before .before .before .before .before .pre .0)) (pair-same _ _ _ _ _ _ _ (c .if1 .taken))
+returns c = rw (c .quiet .ensures) (built-is (built-same (c .before .before .before .before .before .before .before .before .before .pre .0)) (pair-same _ _ _ _ _ _ _ (c .before .if1 .taken)))
 
 fire-requires : tie.Need-fire-requires
 fire-requires c κs = search needs
@@ -28,11 +31,4 @@ returns-2 c = built-is (c .before .before .before .before .before .before .befor
 pub fire-pair-spec : {M : Type 1} → statement M
 fire-pair-spec =
     tie.close
-    (tie.spec
-    returns
-    fire-requires
-    same-length
-    same-length-2
-    same-length-3
-    same-length-4
-    returns-2)
+    (tie.spec quiet-requires returns fire-requires same-length same-length-2 same-length-3 same-length-4 returns-2)

@@ -1,3 +1,4 @@
+use borrow.Author.Needs.{needs}
 use Prim.Native.Nat.{_-_, _≤_}
 use mathlib.Core.Path.{refl, sym, _∙_}
 use native.Mathlib.Omega.{arith}
@@ -50,39 +51,25 @@ loop-less c = omega arith
 loop-again : tie.Need-loop-again Inv-loop μ-loop
 loop-again c = (omega arith, model-next (c .before .before .before .before .before .before .before .before .before .before .before .before .before .before .before .loop .inv .1) (range-step _ _ (c .before .before .before .before .before .before .before .before .before .before .before .before .before .before .loop-test .taken)) (c .before .before .before .before .before .before .before .before .before .visit .ensures) (c .before .if1 .left))
 
+quiet-requires : tie.Need-quiet-requires Inv-loop μ-loop
+quiet-requires c κs = search needs
+
 same-length-5 : tie.Need-same-length-5 Inv-loop μ-loop
-same-length-5 c = c .before .loop .inv .1 .built .wide ∙ sym (c .before .before .before .before .before .before .before .pre .label-wide)
+same-length-5 c = c .before .before .loop .inv .1 .built .wide ∙ sym (c .before .before .before .before .before .before .before .before .pre .label-wide)
 
 same-length-6 : tie.Need-same-length-6 Inv-loop μ-loop
-same-length-6 c = labels-size (c .before .before .before .before .before .before .before .pre) (c .before .loop .inv .1 .built)
+same-length-6 c = labels-size (c .before .before .before .before .before .before .before .before .pre) (c .before .before .loop .inv .1 .built)
 
 same-length-7 : tie.Need-same-length-7 Inv-loop μ-loop
-same-length-7 c = c .before .loop .inv .1 .built .left .size
+same-length-7 c = c .before .before .loop .inv .1 .built .left .size
 
 same-length-8 : tie.Need-same-length-8 Inv-loop μ-loop
-same-length-8 c = c .before .loop .inv .1 .built .left .log-size
+same-length-8 c = c .before .before .loop .inv .1 .built .left .log-size
 
 returns-2 : tie.Need-returns-2 Inv-loop μ-loop
-returns-2 c = built-is (model-done (c .before .loop .inv .1) (range-end _ _ (c .loop-test .left))) (round-walk _ _ _ _ _)
+returns-2 c = rw (c .quiet .ensures) (built-is (model-done (c .before .before .loop .inv .1) (range-end _ _ (c .before .loop-test .left))) (round-walk _ _ _ _ _))
 
 pub round-spec : {M : Type 1} → statement M
 round-spec =
     tie.close
-    (tie.spec
-    Inv-loop
-    μ-loop
-    loop-holds
-    visit-requires
-    same-length
-    same-length-2
-    same-length-3
-    same-length-4
-    returns
-    add-i
-    loop-less
-    loop-again
-    same-length-5
-    same-length-6
-    same-length-7
-    same-length-8
-    returns-2)
+    (tie.spec Inv-loop μ-loop loop-holds visit-requires same-length same-length-2 same-length-3 same-length-4 returns add-i loop-less loop-again quiet-requires same-length-5 same-length-6 same-length-7 same-length-8 returns-2)
