@@ -3,10 +3,10 @@
 --     built-note, built-trip                a reason, and one that ends building
 --     reach-full, reach-link                a label interned, and the edge to it
 --     OnModel                               every loop that walks a list
-use Prim.Native.Nat.{ℕ, suc, _+_, _-_, _*_, _<_, _≤_}
-use mathlib.Core.Bool.{Bool, true, false, cond}
-use mathlib.Core.Path.{_≡_, refl, sym, ap, _∙_}
-use mathlib.Core.List.{List, [], _∷_, map}
+use Prim.Native.Nat.{ℕ, _+_, _-_, _*_, _<_, _≤_}
+use mathlib.Core.Bool.{true, false, cond}
+use mathlib.Core.Path.{_≡_, refl, sym, _∙_}
+use mathlib.Core.List.{List, [], _∷_}
 use mathlib.Core.Logic.{⊎-elim}
 use native.Mathlib.Nat.{mul-le-mul-right}
 use Rattle.deck.proofs.CaseLaws.{lt-or-le}
@@ -24,14 +24,14 @@ use Rattle.model.specs.declared.tally.Step.{Step}
 use Rattle.model.specs.declared.reasons.Reason.{Reason}
 use Rattle.model.specs.Walk.{walk}
 use Rattle.model.specs.Rows.{rowsOf}
-use Rattle.model.specs.Intern.{indexOf, interned, Placed, Held}
+use Rattle.model.specs.Intern.{interned, Placed, Held}
 use Rattle.model.specs.Reasons.{noted, counted, boundTripped}
 use Rattle.model.specs.Push.{State, edge, pushEdge, start, quiet, Left, Room}
 use Rattle.model.specs.Model.{Model, noteState, tripState, noteIn, tripIn, reach, Buffers, lent, begun, top, among, Prepared, Built}
 use Rattle.model.proofs.RowLaws.{length-rows}
 use Rattle.model.proofs.InternLaws.{held-start, held-rows, held-length, held-on, held-intern, interned-grows}
-use Rattle.model.proofs.PushLaws.{left-same, left-trans, left-is, left-start, left-quiet, left-tripped, left-room, noted-length}
-use Rattle.model.proofs.WalkLaws.{walk-fixed}
+use Rattle.model.proofs.PushLaws.{left-same, left-trans, left-start, left-quiet, left-tripped, left-room, noted-length}
+use Rattle.model.proofs.WalkLaws.{On, done, stop, onward}
 
 -- ---- the larger of N and the bound
 larger-left : (a b : ℕ) → a ≤ cond (ltb a b) b a
@@ -234,10 +234,9 @@ module _ {s : List ℕ} {B : Bounds} {b : Buffers} {t : Tally} {floor label : Li
           wide = wide′;
         })
 
--- ---- a walk over `all` has come to `rest`, and the buffers hold where it is
-pub record OnModel {A : Type 0} (D : Deck) (B : Bounds) (f : A → Model → Model) (all rest : List A) (b : Buffers) (t : Tally) (b′ : Buffers) (l : List ℕ) (held : Tally) : Type 0 where
-  pub built : Built D B b t b′ l (quiet held) (begun D b′ held)
-  pub goes : walk f all (begun D b t) ≡ walk f rest (begun D b′ held)
+-- ---- a walk of steps that build: `On` of proofs/WalkLaws.antt
+abbrev pub OnModel : {A : Type 0} → Deck → Bounds → (A → Model → Model) → List A → List A → Buffers → Tally → Buffers → List ℕ → Tally → Type 0
+OnModel D B f all rest b t b′ l held = On (Built D B b t b′ l (quiet held)) f all rest (begun D b t) (begun D b′ held)
 
 pub model-start : {A : Type 0} {s : List ℕ} {B : Bounds} {b : Buffers} {t : Tally} {floor label : List ℕ} (f : A → Model → Model) (all : List A) → Prepared s B b t floor label → OnModel (deckOf s) B f all all b t b label t
 model-start f all P = record { built = built-same P; goes = refl }
@@ -249,16 +248,11 @@ from-zero n G = let z : n - 0 ≡ n = omega arith in rw z G
 
 module _ {A : Type 0} {D : Deck} {B : Bounds} {f : A → Model → Model} {all rest : List A} {b : Buffers} {t : Tally} {b₁ : Buffers} {l₁ : List ℕ} {held : Tally} (G : OnModel D B f all rest b t b₁ l₁ held) where
   pub model-done : rest ≡ [] → Built D B b t b₁ l₁ (quiet held) (walk f all (begun D b t))
-  unfolding walk
-  model-done q = built-is (G .built) (sym (G .goes ∙ ap (λ z. walk f z (begun D b₁ held)) q))
+  model-done = done G
 
   module _ {x : A} {more : List A} (q : rest ≡ x ∷ more) {b₂ : Buffers} {l₂ : List ℕ} {r : Step} (X : Built D B b₁ held b₂ l₂ r (f x (begun D b₁ held))) where
-    next : walk f all (begun D b t) ≡ walk f more (f x (begun D b₁ held))
-    unfolding walk
-    next = G .goes ∙ ap (λ z. walk f z (begun D b₁ held)) q
-
     pub model-stop : ((y : A) (u : Model) → u .state .tripped ≡ true → f y u ≡ u) → r .tripped ≡ true → Built D B b t b₂ l₂ r (walk f all (begun D b t))
-    model-stop stuck w = built-is (built-trans (G .built) X) (sym (next ∙ walk-fixed f more (f x (begun D b₁ held)) (λ y. stuck y _ (built-tripped X ∙ w))))
+    model-stop stuck w = stop G q (Built D B b t b₂ l₂ r) (built-trans (G .built) X) (λ y. stuck y _ (built-tripped X ∙ w))
 
     pub model-next : r .tripped ≡ false → OnModel D B f all more b t b₂ l₂ (r .tally)
-    model-next w = record { built = built-quiet (built-trans (G .built) X) w; goes = next ∙ ap (walk f more) (sym (built-start X w)) }
+    model-next w = onward G q (Built D B b t b₂ l₂ (quiet (r .tally))) (built-quiet (built-trans (G .built) X) w) (built-start X w)

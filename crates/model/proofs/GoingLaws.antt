@@ -15,7 +15,7 @@ use Rattle.model.specs.Pairs.{linkKey, first}
 use Rattle.model.specs.Push.{State, quiet, start, Left, Room}
 use Rattle.model.specs.Walk.{walk}
 use Rattle.model.proofs.NextLaws.{next-none, next-from, next-below, next-some}
-use Rattle.model.proofs.WalkLaws.{On, on-start, on-done, on-stop, on-next}
+use Rattle.model.proofs.WalkLaws.{OnEdges, on-start, on-done, on-stop, on-next}
 
 -- the numbers of the pairs of r among the edges of before, from a on and below `end`
 abbrev pub keys : Deck → ℕ → List (List ℕ) → Tally → ℕ → ℕ → List ℕ
@@ -25,7 +25,7 @@ keys D r was t a end = keep (linkKey D (edgesOf was (t .edges)) r) (range a (end
 pub record Going (D : Deck) (limit : ℕ) (f : ℕ → State → State) (r from end : ℕ) (was : List (List ℕ)) (log : List ℕ) (t : Tally) (now : List (List ℕ)) (log′ : List ℕ) (held : Tally) (after : ℕ) : Type 0 where
   pub past : from ≤ after
   pub le : after ≤ end
-  pub on : On limit f (keys D r was t from end) (keys D r was t after end) was log t now log′ held
+  pub on : OnEdges limit f (keys D r was t from end) (keys D r was t after end) was log t now log′ held
 
 module _ (D : Deck) (limit : ℕ) (f : ℕ → State → State) (r from end : ℕ) (was : List (List ℕ)) (log : List ℕ) (t : Tally) where
   pub going-start : Room limit was (t .edges) → from ≤ end → Going D limit f r from end was log t was log t from
@@ -34,7 +34,7 @@ module _ (D : Deck) (limit : ℕ) (f : ℕ → State → State) (r from end : �
   module _ {now : List (List ℕ)} {log′ : List ℕ} {held : Tally} {after : ℕ} (G : Going D limit f r from end was log t now log′ held after)
       {o : Found} (e : o ≡ first (keep (linkKey D (edgesOf now (t .edges)) r) (range after (end - after)))) where
     found : o ≡ first (keys D r was t after end)
-    found = e ∙ ap (λ es. first (keep (linkKey D es r) (range after (end - after)))) (G .on .left .old)
+    found = e ∙ ap (λ es. first (keep (linkKey D es r) (range after (end - after)))) (G .on .built .old)
 
     pub going-done : o ≡ Nothing → Left limit was log t now log′ (quiet held) (walk f (keys D r was t from end) (start was log t))
     going-done q = on-done (G .on) (next-none (linkKey D (edgesOf was (t .edges)) r) after end (G .le) found q)

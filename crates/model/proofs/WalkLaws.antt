@@ -1,7 +1,7 @@
--- Laws of `walk`, and one record for every loop that walks a list: On.
+-- Laws of `walk`, and one record for every loop that walks a list of steps: On.
 use mathlib.Core.Bool.{true, false}
 use Prim.Native.Nat.{ℕ, _+_, _<_, _≤_}
-use mathlib.Core.Path.{_≡_, refl, sym, ap, _∙_}
+use mathlib.Core.Path.{_≡_, refl, sym, ap, _∙_, subst}
 use mathlib.Core.List.{List, [], _∷_, _++_, map, flatMap, List·Memᴰ as Member, List·Memᴰ·head as here, List·Memᴰ·tail as there}
 use lib.ListN.{length, getD, drop, drop-of-length-le}
 use Rattle.eval.proofs.Walks.{list-step}
@@ -9,7 +9,7 @@ use Rattle.model.specs.declared.tally.Tally.{Tally}
 use Rattle.model.specs.declared.tally.Step.{Step}
 use Rattle.model.specs.Push.{State, quiet, start, Left, Room}
 use Rattle.model.specs.Walk.{walk}
-use Rattle.model.proofs.PushLaws.{left-same, left-trans, left-is, left-start, left-quiet, left-tripped}
+use Rattle.model.proofs.PushLaws.{left-same, left-trans, left-start, left-quiet, left-tripped}
 
 -- what every step keeps, the walk keeps
 pub walk-keeps : {A S : Type 0} (Q : S → Type 0) (f : A → S → S) (xs : List A) → ((x : A) → Member x xs → (s : S) → Q s → Q (f x s)) → (s : S) → Q s → Q (walk f xs s)
@@ -60,27 +60,44 @@ module _ {A S : Type 0} (d : A) (f : A → S → S) (l : List A) (i : ℕ) (s : 
 pub operand : (l : List ℕ) (i : ℕ) → i < length l → {x : ℕ} → x ≡ getD l i 0 → drop i l ≡ x ∷ drop (i + 1) l
 operand l i h q = rw q (list-step 0 l i h)
 
--- a walk over `all` has come to `rest`, and the buffers hold where it is
-pub record On (limit : ℕ) {A : Type 0} (f : A → State → State) (all rest : List A) (was : List (List ℕ)) (log : List ℕ) (t : Tally) (now : List (List ℕ)) (log′ : List ℕ) (held : Tally) : Type 0 where
-  pub left : Left limit was log t now log′ (quiet held) (start now log′ held)
-  pub goes : walk f all (start was log t) ≡ walk f rest (start now log′ held)
+-- ---- every loop that walks a list: a walk over `all` has come to `rest`, and the buffers hold where it is, as L says
+pub record On {A S : Type 0} (L : S → Type 0) (f : A → S → S) (all rest : List A) (from here : S) : Type 0 where
+  pub built : L here
+  pub goes : walk f all from ≡ walk f rest here
+
+module _ {A S : Type 0} {L : S → Type 0} {f : A → S → S} {all rest : List A} {from here : S} (G : On L f all rest from here) where
+  pub done : rest ≡ [] → L (walk f all from)
+  unfolding walk
+  done q = subst L (sym (G .goes ∙ ap (λ z. walk f z here) q)) (G .built)
+
+  module _ {x : A} {more : List A} (q : rest ≡ x ∷ more) (M : S → Type 0) where
+    next : walk f all from ≡ walk f more (f x here)
+    unfolding walk
+    next = G .goes ∙ ap (λ z. walk f z here) q
+
+    -- a step after which nothing changes
+    pub stop : M (f x here) → ((y : A) → f y (f x here) ≡ f x here) → M (walk f all from)
+    stop m stuck = subst M (sym (next ∙ walk-fixed f more (f x here) stuck)) m
+
+    -- a step to the next
+    pub onward : {there : S} → M there → there ≡ f x here → On M f all more from there
+    onward m e = record { built = m; goes = next ∙ ap (walk f more) (sym e) }
+
+-- steps that add edges alone
+abbrev pub OnEdges : ℕ → {A : Type 0} → (A → State → State) → List A → List A → List (List ℕ) → List ℕ → Tally → List (List ℕ) → List ℕ → Tally → Type 0
+OnEdges limit f all rest was log t now log′ held = On (Left limit was log t now log′ (quiet held)) f all rest (start was log t) (start now log′ held)
 
 module _ {limit : ℕ} {A : Type 0} {f : A → State → State} {all : List A} {was : List (List ℕ)} {log : List ℕ} {t : Tally} where
-  pub on-start : Room limit was (t .edges) → On limit f all all was log t was log t
-  on-start R = record { left = left-same limit was log t R; goes = refl }
+  pub on-start : Room limit was (t .edges) → OnEdges limit f all all was log t was log t
+  on-start R = record { built = left-same limit was log t R; goes = refl }
 
-  module _ {rest : List A} {now : List (List ℕ)} {log′ : List ℕ} {held : Tally} (G : On limit f all rest was log t now log′ held) where
+  module _ {rest : List A} {now : List (List ℕ)} {log′ : List ℕ} {held : Tally} (G : OnEdges limit f all rest was log t now log′ held) where
     pub on-done : rest ≡ [] → Left limit was log t now log′ (quiet held) (walk f all (start was log t))
-    unfolding walk
-    on-done q = left-is (G .left) (sym (G .goes ∙ rw q))
+    on-done = done G
 
     module _ {x : A} {more : List A} (q : rest ≡ x ∷ more) {new : List (List ℕ)} {log″ : List ℕ} {r : Step} (L : Left limit now log′ held new log″ r (f x (start now log′ held))) where
-      next : walk f all (start was log t) ≡ walk f more (f x (start now log′ held))
-      unfolding walk
-      next = G .goes ∙ rw q
-
       pub on-stop : ((y : A) (u : State) → u .tripped ≡ true → f y u ≡ u) → r .tripped ≡ true → Left limit was log t new log″ r (walk f all (start was log t))
-      on-stop stuck w = left-is (left-trans (G .left) L) (sym (next ∙ walk-fixed f more (f x (start now log′ held)) (λ y. stuck y _ (left-tripped L ∙ w))))
+      on-stop stuck w = stop G q (Left limit was log t new log″ r) (left-trans (G .built) L) (λ y. stuck y _ (left-tripped L ∙ w))
 
-      pub on-next : r .tripped ≡ false → On limit f all more was log t new log″ (r .tally)
-      on-next w = record { left = left-quiet (left-trans (G .left) L) w; goes = next ∙ ap (walk f more) (sym (left-start L w)) }
+      pub on-next : r .tripped ≡ false → OnEdges limit f all more was log t new log″ (r .tally)
+      on-next w = onward G q (Left limit was log t new log″ (quiet (r .tally))) (left-quiet (left-trans (G .built) L) w) (left-start L w)

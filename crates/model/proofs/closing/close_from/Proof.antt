@@ -42,7 +42,7 @@ next-pair-requires c κs =
     let R = c .before .before .before .before .before .pre .0 in
     let q = c .before .before .before .before .before .pre .1 .1 .1 .1 in
     let G = c .before .loop .inv in
-    (R .accepted, (c .before .before .before .before .before .pre .1 .0, (omega (arith, G .on .left .size, R .space .bound, R .space .room, q), (rw (q, G .on .left .old) (fits-ends _ _ (R .few) _ (R .fits)), G .le))))
+    (R .accepted, (c .before .before .before .before .before .pre .1 .0, (omega (arith, G .on .built .size, R .space .bound, R .space .room, q), (rw (q, G .on .built .old) (fits-ends _ _ (R .few) _ (R .fits)), G .le))))
 
 enum-known-found : tie.Need-enum-known-found Inv-loop μ-loop
 enum-known-found c = search needs
@@ -54,10 +54,10 @@ quiet-requires : tie.Need-quiet-requires Inv-loop μ-loop
 quiet-requires c κs = search needs
 
 same-length : tie.Need-same-length Inv-loop μ-loop
-same-length c = c .before .before .before .before .before .loop .inv .on .left .size
+same-length c = c .before .before .before .before .before .loop .inv .on .built .size
 
 same-length-2 : tie.Need-same-length-2 Inv-loop μ-loop
-same-length-2 c = c .before .before .before .before .before .loop .inv .on .left .log-size
+same-length-2 c = c .before .before .before .before .before .loop .inv .on .built .log-size
 
 returns : tie.Need-returns Inv-loop μ-loop
 returns c = rw (c .quiet .ensures) (
@@ -69,20 +69,20 @@ cast-z : tie.Need-cast-z Inv-loop μ-loop
 cast-z c = omega arith
 
 join-requires : tie.Need-join-requires Inv-loop μ-loop
-join-requires c κs = let R = c .before .before .before .before .before .before .before .before .before .before .before .pre .0 in (R .accepted, (left-room (c .before .before .before .before .before .before .before .loop .inv .on .left) (R .space) refl, c .before .before .before .before .before .before .before .before .before .before .before .pre .1 .1 .0))
+join-requires c κs = let R = c .before .before .before .before .before .before .before .before .before .before .before .pre .0 in (R .accepted, (left-room (c .before .before .before .before .before .before .before .loop .inv .on .built) (R .space) refl, c .before .before .before .before .before .before .before .before .before .before .before .pre .1 .1 .0))
 
 same-length-3 : tie.Need-same-length-3 Inv-loop μ-loop
-same-length-3 c = c .before .before .before .before .join .ensures .size ∙ c .before .before .before .before .before .before .before .before .before .before .before .before .loop .inv .on .left .size
+same-length-3 c = c .before .before .before .before .join .ensures .size ∙ c .before .before .before .before .before .before .before .before .before .before .before .before .loop .inv .on .built .size
 
 same-length-4 : tie.Need-same-length-4 Inv-loop μ-loop
-same-length-4 c = c .before .before .before .before .join .ensures .log-size ∙ c .before .before .before .before .before .before .before .before .before .before .before .before .loop .inv .on .left .log-size
+same-length-4 c = c .before .before .before .before .join .ensures .log-size ∙ c .before .before .before .before .before .before .before .before .before .before .before .before .loop .inv .on .built .log-size
 
 returns-2 : tie.Need-returns-2 Inv-loop μ-loop
 returns-2 c =
     let z = c .before .before .before .before .before .before .before .before .before .before .before .before .before .before .before .before in
     let G = c .before .before .before .before .before .before .before .before .before .before .before .before .loop .inv in
     let n : z .args .k % 65536 * 65536 + z .args .t .elements - z .args .k % 65536 * 65536 ≡ z .args .t .elements = omega arith in
-    left-is (rw n at (going-stop _ _ _ _ _ _ _ _ _ G (rw (c .before .before .before .before .before .before .before .before .before .before .before .before .before .before .before .before .pre .1 .1 .1 .1) at (c .before .before .before .before .before .before .before .before .before .before .next-pair .ensures)) (c .before .before .before .before .before .before .before .before .found .given .1) (left-is (c .before .before .before .before .join .ensures) (join-same _ _ (G .on .left .elements) _ _ _ _)) (λ i u e. join-stuck _ _ _ _ _ _ u e) (c .if1 .taken))) (from-keys _ _ _ (z .pre .0 .few) _ _ _ (pairOf (z .args .k)))
+    left-is (rw n at (going-stop _ _ _ _ _ _ _ _ _ G (rw (c .before .before .before .before .before .before .before .before .before .before .before .before .before .before .before .before .pre .1 .1 .1 .1) at (c .before .before .before .before .before .before .before .before .before .before .next-pair .ensures)) (c .before .before .before .before .before .before .before .before .found .given .1) (left-is (c .before .before .before .before .join .ensures) (join-same _ _ (G .on .built .elements) _ _ _ _)) (λ i u e. join-stuck _ _ _ _ _ _ u e) (c .if1 .taken))) (from-keys _ _ _ (z .pre .0 .few) _ _ _ (pairOf (z .args .k)))
 
 add-after : tie.Need-add-after Inv-loop μ-loop
 add-after c = omega (arith, going-below _ _ _ _ _ _ _ _ _ (c .before .before .before .before .before .before .before .before .before .before .before .before .before .loop .inv) (rw (c .before .before .before .before .before .before .before .before .before .before .before .before .before .before .before .before .before .pre .1 .1 .1 .1) at (c .before .before .before .before .before .before .before .before .before .before .before .next-pair .ensures)) (c .before .before .before .before .before .before .before .before .before .found .given .1))
@@ -95,7 +95,7 @@ loop-less c =
 loop-again : tie.Need-loop-again Inv-loop μ-loop
 loop-again c =
     let G = c .before .before .before .before .before .before .before .before .before .before .before .before .before .loop .inv in
-    going-next _ _ _ _ _ _ _ _ _ G (rw (c .before .before .before .before .before .before .before .before .before .before .before .before .before .before .before .before .before .pre .1 .1 .1 .1) at (c .before .before .before .before .before .before .before .before .before .before .before .next-pair .ensures)) (c .before .before .before .before .before .before .before .before .before .found .given .1) (left-is (c .before .before .before .before .before .join .ensures) (join-same _ _ (G .on .left .elements) _ _ _ _)) (c .before .if1 .left)
+    going-next _ _ _ _ _ _ _ _ _ G (rw (c .before .before .before .before .before .before .before .before .before .before .before .before .before .before .before .before .before .pre .1 .1 .1 .1) at (c .before .before .before .before .before .before .before .before .before .before .before .next-pair .ensures)) (c .before .before .before .before .before .before .before .before .before .found .given .1) (left-is (c .before .before .before .before .before .join .ensures) (join-same _ _ (G .on .built .elements) _ _ _ _)) (c .before .if1 .left)
 
 pub close-from-spec : {M : Type 1} → statement M
 close-from-spec =

@@ -36,7 +36,7 @@ next-pair-requires : tie.Need-next-pair-requires Inv-loop μ-loop
 next-pair-requires c κs =
     let R = c .before .before .before .before .before .pre .0 in
     let G = c .before .loop .inv .0 in
-    (R .accepted, (c .before .before .before .before .before .pre .1 .0, (omega (arith, G .on .left .size, R .space .bound, R .space .room), (rw (G .on .left .old) (fits-ends _ _ (R .few) _ (R .fits)), G .le))))
+    (R .accepted, (c .before .before .before .before .before .pre .1 .0, (omega (arith, G .on .built .size, R .space .bound, R .space .room), (rw (G .on .built .old) (fits-ends _ _ (R .few) _ (R .fits)), G .le))))
 
 enum-known-found : tie.Need-enum-known-found Inv-loop μ-loop
 enum-known-found c = search needs
@@ -48,10 +48,10 @@ quiet-requires : tie.Need-quiet-requires Inv-loop μ-loop
 quiet-requires c κs = search needs
 
 same-length : tie.Need-same-length Inv-loop μ-loop
-same-length c = c .before .before .before .before .before .loop .inv .0 .on .left .size
+same-length c = c .before .before .before .before .before .loop .inv .0 .on .built .size
 
 same-length-2 : tie.Need-same-length-2 Inv-loop μ-loop
-same-length-2 c = c .before .before .before .before .before .loop .inv .0 .on .left .log-size
+same-length-2 c = c .before .before .before .before .before .loop .inv .0 .on .built .log-size
 
 returns : tie.Need-returns Inv-loop μ-loop
 returns c = rw (c .quiet .ensures) (left-is (rw sub-zero at (going-done _ _ _ _ _ _ _ _ _ (c .before .before .before .before .before .loop .inv .0) (c .before .before .before .next-pair .ensures) (c .before .enum-told .given .1))) (rule-keys _ _ _ (c .before .before .before .before .before .before .before .before .before .pre .0 .few) _ (c .before .before .before .before .before .before .before .before .before .pre .0 .fits) _ _ _))
@@ -60,18 +60,18 @@ close-from-requires : tie.Need-close-from-requires Inv-loop μ-loop
 close-from-requires c κs =
     let z = c .before .before .before .before .before .before .before .before .before .before .before in
     let G = c .before .before .before .before .before .before .before .loop .inv .0 in
-    (c .before .before .before .before .before .before .before .loop .inv .1, (z .pre .1 .1 .0, (z .pre .1 .1 .1, (omega (arith, G .on .left .elements, going-below _ _ _ _ _ _ _ _ _ G (c .before .before .before .before .before .next-pair .ensures) (c .before .before .before .found .given .1)), refl))))
+    (c .before .before .before .before .before .before .before .loop .inv .1, (z .pre .1 .1 .0, (z .pre .1 .1 .1, (omega (arith, G .on .built .elements, going-below _ _ _ _ _ _ _ _ _ G (c .before .before .before .before .before .next-pair .ensures) (c .before .before .before .found .given .1)), refl))))
 
 same-length-3 : tie.Need-same-length-3 Inv-loop μ-loop
-same-length-3 c = c .before .before .before .before .close-from .ensures .size ∙ c .before .before .before .before .before .before .before .before .before .before .before .before .loop .inv .0 .on .left .size
+same-length-3 c = c .before .before .before .before .close-from .ensures .size ∙ c .before .before .before .before .before .before .before .before .before .before .before .before .loop .inv .0 .on .built .size
 
 same-length-4 : tie.Need-same-length-4 Inv-loop μ-loop
-same-length-4 c = c .before .before .before .before .close-from .ensures .log-size ∙ c .before .before .before .before .before .before .before .before .before .before .before .before .loop .inv .0 .on .left .log-size
+same-length-4 c = c .before .before .before .before .close-from .ensures .log-size ∙ c .before .before .before .before .before .before .before .before .before .before .before .before .loop .inv .0 .on .built .log-size
 
 returns-2 : tie.Need-returns-2 Inv-loop μ-loop
 returns-2 c =
     let G = c .before .before .before .before .before .before .before .before .before .before .before .before .loop .inv .0 in
-    left-is (rw sub-zero at (going-stop _ _ _ _ _ _ _ _ _ G (c .before .before .before .before .before .before .before .before .before .before .next-pair .ensures) (c .before .before .before .before .before .before .before .before .found .given .1) (left-is (c .before .before .before .before .close-from .ensures) (from-same _ _ (G .on .left .elements) _ _ _ _)) (λ i u e. from-stuck _ _ _ _ _ _ u e) (c .if1 .taken))) (rule-keys _ _ _ (c .before .before .before .before .before .before .before .before .before .before .before .before .before .before .before .before .pre .0 .few) _ (c .before .before .before .before .before .before .before .before .before .before .before .before .before .before .before .before .pre .0 .fits) _ _ _)
+    left-is (rw sub-zero at (going-stop _ _ _ _ _ _ _ _ _ G (c .before .before .before .before .before .before .before .before .before .before .next-pair .ensures) (c .before .before .before .before .before .before .before .before .found .given .1) (left-is (c .before .before .before .before .close-from .ensures) (from-same _ _ (G .on .built .elements) _ _ _ _)) (λ i u e. from-stuck _ _ _ _ _ _ u e) (c .if1 .taken))) (rule-keys _ _ _ (c .before .before .before .before .before .before .before .before .before .before .before .before .before .before .before .before .pre .0 .few) _ (c .before .before .before .before .before .before .before .before .before .before .before .before .before .before .before .before .pre .0 .fits) _ _ _)
 
 add-after : tie.Need-add-after Inv-loop μ-loop
 add-after c = omega (arith, going-below _ _ _ _ _ _ _ _ _ (c .before .before .before .before .before .before .before .before .before .before .before .before .before .loop .inv .0) (c .before .before .before .before .before .before .before .before .before .before .before .next-pair .ensures) (c .before .before .before .before .before .before .before .before .before .found .given .1))
@@ -87,8 +87,8 @@ loop-again c =
     let R = c .before .before .before .before .before .before .before .before .before .before .before .before .before .loop .inv .1 in
     let L = c .before .before .before .before .before .close-from .ensures in
     let below = going-below _ _ _ _ _ _ _ _ _ G (c .before .before .before .before .before .before .before .before .before .before .before .next-pair .ensures) (c .before .before .before .before .before .before .before .before .before .found .given .1) in (
-      going-next _ _ _ _ _ _ _ _ _ G (c .before .before .before .before .before .before .before .before .before .before .before .next-pair .ensures) (c .before .before .before .before .before .before .before .before .before .found .given .1) (left-is L (from-same _ _ (G .on .left .elements) _ _ _ _)) (c .before .if1 .left),
-      ready-next R L (c .before .if1 .left) (from-fits _ _ _ _ _ (c .before .before .before .before .before .before .before .before .before .before .before .before .before .before .before .before .before .pre .1 .1 .1) _ (omega (arith, G .on .left .elements, below)) _ (R .fits)),
+      going-next _ _ _ _ _ _ _ _ _ G (c .before .before .before .before .before .before .before .before .before .before .before .next-pair .ensures) (c .before .before .before .before .before .before .before .before .before .found .given .1) (left-is L (from-same _ _ (G .on .built .elements) _ _ _ _)) (c .before .if1 .left),
+      ready-next R L (c .before .if1 .left) (from-fits _ _ _ _ _ (c .before .before .before .before .before .before .before .before .before .before .before .before .before .before .before .before .before .pre .1 .1 .1) _ (omega (arith, G .on .built .elements, below)) _ (R .fits)),
     )
 
 pub close-rule-spec : {M : Type 1} → statement M
