@@ -3,3 +3,4 @@ pub mod DecimalLaws
 pub mod WriteLaws
 pub mod LengthLaws
 pub mod TextLaws
+pub mod TextSpecimens
