@@ -47,11 +47,7 @@ fn reach_body(
         (spec.bodyLabel (deckOf (now (deck .entry))) (now (floor .entry)) bounds (role .0) (concept .0) (begun (deckOf (now (deck .entry))) (lent (now (labels .entry)) (now (edges .entry)) (now (log .entry))) t)) ⌝ }
 {
     let reasons = body_label(deck, role, concept, label, log, t.reasons);
-    let held = Tally {
-        elements: t.elements,
-        edges: t.edges,
-        reasons,
-    };
+    let held = t.with_reasons(reasons);
     reach(
         deck,
         bounds,

@@ -35,11 +35,7 @@ fn note(log: &mut [u32], t: Tally, reason: Reason) -> Tally
     ensures { λ r. ⌜ (now (log .exit) ≡ noted (now (log .entry)) (t .reasons) reason) × (r ≡ record { elements = t .elements; edges = t .edges; reasons = counted (t .reasons) }) ⌝ }
 {
     let reasons = reasons::note(log, t.reasons, reason);
-    Tally {
-        elements: t.elements,
-        edges: t.edges,
-        reasons,
-    }
+    t.with_reasons(reasons)
 }
 
 // The edge of the role from e to the element of a class's row.

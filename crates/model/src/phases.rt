@@ -41,11 +41,7 @@ fn no_tally() -> Tally
 fn with_elements(t: Tally, elements: u32) -> Tally
     ensures { λ r. ⌜ r ≡ among elements t ⌝ }
 {
-    Tally {
-        elements,
-        edges: t.edges,
-        reasons: t.reasons,
-    }
+    t.with_elements(elements)
 }
 
 // The tally that a step left.
@@ -188,11 +184,7 @@ fn note_dropped(deck: &[u8], log: &mut [u32], t: Tally) -> Tally
     }
     let reason = Reason::axioms_dropped(dropped);
     let reasons = note(log, t.reasons, reason);
-    Tally {
-        elements: t.elements,
-        edges: t.edges,
-        reasons,
-    }
+    t.with_reasons(reasons)
 }
 
 // All that is built: the labels, edges and log, and how much of them is in use.

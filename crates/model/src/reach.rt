@@ -45,26 +45,15 @@ pub fn reach(
     let placed = intern(deck, floor, label, labels, t.elements);
     let element = placed.element;
     let elements = placed.elements;
+    let held = t.with_elements(elements);
     if bounds.max_elements < elements {
         let reason = Reason::bound_tripped(0, bounds.max_elements);
         let reasons = note(log, t.reasons, reason);
         return Arrival {
-            step: Step {
-                tally: Tally {
-                    elements,
-                    edges: t.edges,
-                    reasons,
-                },
-                tripped: true,
-            },
+            step: Step::tripping(held.with_reasons(reasons)),
             element,
         };
     }
-    let held = Tally {
-        elements,
-        edges: t.edges,
-        reasons: t.reasons,
-    };
     let e = Edge {
         role,
         from,

@@ -302,14 +302,7 @@ fn trip_rounds(log: &mut [u32], limit: u32, t: Tally) -> Step
 {
     let reason = Reason::bound_tripped(2, limit);
     let reasons = note(log, t.reasons, reason);
-    Step {
-        tally: Tally {
-            elements: t.elements,
-            edges: t.edges,
-            reasons,
-        },
-        tripped: true,
-    }
+    Step::tripping(t.with_reasons(reasons))
 }
 
 // Rounds until one adds no element or trips a bound.

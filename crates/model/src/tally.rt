@@ -1,5 +1,7 @@
 // How far building has come: elements and edges in use, and reasons given.
 ghost use mathlib.Core.Path.{_≡_};
+ghost use mathlib.Core.Bool.{true};
+ghost use Rattle.model.specs.Model.{among};
 ghost use Rattle.model.specs.Push.{quiet};
 
 pub struct Tally {
@@ -14,6 +16,30 @@ pub struct Step {
     pub tripped: bool,
 }
 
+impl Tally {
+    // The same with another number of elements.
+    pub fn with_elements(self, elements: u32) -> Tally
+        ensures { λ r. ⌜ r ≡ among elements self ⌝ }
+    {
+        Tally {
+            elements,
+            edges: self.edges,
+            reasons: self.reasons,
+        }
+    }
+
+    // The same with another total of reasons.
+    pub fn with_reasons(self, reasons: u32) -> Tally
+        ensures { λ r. ⌜ r ≡ record { elements = self .elements; edges = self .edges; reasons = reasons } ⌝ }
+    {
+        Tally {
+            elements: self.elements,
+            edges: self.edges,
+            reasons,
+        }
+    }
+}
+
 impl Step {
     // One that tripped no bound.
     pub fn quiet(tally: Tally) -> Step
@@ -22,6 +48,16 @@ impl Step {
         Step {
             tally,
             tripped: false,
+        }
+    }
+
+    // One that tripped one.
+    pub fn tripping(tally: Tally) -> Step
+        ensures { λ r. ⌜ r ≡ record { tally = tally; tripped = true } ⌝ }
+    {
+        Step {
+            tally,
+            tripped: true,
         }
     }
 }

@@ -1,5 +1,4 @@
-use mathlib.Core.Path.{refl, sym, _∙_}
-use native.Mathlib.Omega.{arith}
+use mathlib.Core.Path.{sym, _∙_}
 use Rattle.model.proofs.PhaseLaws.{dropped-none, dropped-some}
 use borrow.Author.Needs.{needs}
 use Rattle.model.proofs.phases.note_dropped.Statement.{statement}
@@ -19,13 +18,16 @@ axioms-dropped-requires c κs = search needs
 note-requires : tie.Need-note-requires
 note-requires c κs = search needs
 
+with-reasons-requires : tie.Need-with-reasons-requires
+with-reasons-requires c κs = search needs
+
 same-length : tie.Need-same-length
-same-length c = c .before .before .note .kept .0
+same-length c = c .before .before .before .note .kept .0
 
 returns-2 : tie.Need-returns-2
-returns-2 c = dropped-some _ _ _ (c .before .before .before .before .before .before .dropped-count .ensures) (c .before .before .before .before .before .if1 .left) (rw (c .before .before .before .before .axioms-dropped .ensures) at (c .before .before .note .ensures .0)) (c .before .before .note .ensures .1)
+returns-2 c = rw (c .with-reasons .ensures) (dropped-some _ _ _ (c .before .before .before .before .before .before .before .dropped-count .ensures) (c .before .before .before .before .before .before .if1 .left) (rw (c .before .before .before .before .before .axioms-dropped .ensures) at (c .before .before .before .note .ensures .0)) (c .before .before .before .note .ensures .1))
 
 pub note-dropped-spec : {M : Type 1} → statement M
 note-dropped-spec =
     tie.close
-    (tie.spec dropped-count-requires returns axioms-dropped-requires note-requires same-length returns-2)
+    (tie.spec dropped-count-requires returns axioms-dropped-requires note-requires with-reasons-requires same-length returns-2)

@@ -1,7 +1,5 @@
-use Prim.Native.Nat.{_<_, _≤_}
 use native.Mathlib.Omega.{arith}
-use borrow.Author.Tests.{ltb-false}
-use mathlib.Core.Path.{sym, ap, _∙_}
+use mathlib.Core.Path.{ap, _∙_}
 use Rattle.model.proofs.BuildLaws.{next-fits, reach-full, reach-link}
 use lib.ListN.{length}
 use Rattle.model.proofs.FloorLaws.{length-floored}
@@ -17,11 +15,20 @@ use Rattle.model.proofs.reasons.note.Reads as note-reads
 intern-requires : tie.Need-intern-requires
 intern-requires c κs = let P = c .before .before .before .before .before .before .before .pre in (P .accepted, (P .floor-wide, (P .label-wide, (next-fits P, omega (arith, P .few, P .most)))))
 
+with-elements-requires : tie.Need-with-elements-requires
+with-elements-requires c κs = search needs
+
 bound-tripped-requires : tie.Need-bound-tripped-requires
 bound-tripped-requires c κs = search needs
 
 note-requires : tie.Need-note-requires
 note-requires c κs = search needs
+
+with-reasons-requires : tie.Need-with-reasons-requires
+with-reasons-requires c κs = search needs
+
+tripping-requires : tie.Need-tripping-requires
+tripping-requires c κs = search needs
 
 same-length : tie.Need-same-length
 same-length c = search needs
@@ -34,13 +41,13 @@ same-length-3 c = search needs
 
 returns : tie.Need-returns
 returns c =
-    let P = c .before .before .before .before .before .before .before .before .before .before .before .before .before .before .before .before .before .before .before .before .pre in
-    let I = c .before .before .before .before .before .before .before .before .before .before .before .before .intern .ensures in
+    let P = c .before .before .before .before .before .before .before .before .before .before .before .before .before .before .before .before .before .before .before .before .before .before .before .pre in
+    let I = c .before .before .before .before .before .before .before .before .before .before .before .before .before .before .before .intern .ensures in
     let w = length-floored _ _ _ ∙ P .label-wide in
-    (reach-full P w (I .0) (ap length (I .1) ∙ w) _ _ (c .before .before .before .before .before .if1 .taken) (rw (c .before .before .before .before .bound-tripped .ensures) at (c .before .before .note .ensures .0)) (c .before .before .note .ensures .1), I .0 .place)
+    rw (c .tripping .ensures, c .before .with-reasons .ensures, c .before .before .before .before .before .before .before .before .before .with-elements .ensures) (reach-full P w (I .0) (ap length (I .1) ∙ w) _ _ (c .before .before .before .before .before .before .before .if1 .taken) (rw (c .before .before .before .before .before .before .bound-tripped .ensures) at (c .before .before .before .before .note .ensures .0)) (c .before .before .before .before .note .ensures .1), I .0 .place)
 
 push-edge-requires : tie.Need-push-edge-requires
-push-edge-requires c κs = c .before .before .before .before .before .before .before .before .before .before .before .before .before .before .before .before .before .pre .space
+push-edge-requires c κs = rw (c .before .before .before .before .with-elements .ensures) (c .before .before .before .before .before .before .before .before .before .before .before .before .before .before .before .before .before .before .pre .space)
 
 same-length-4 : tie.Need-same-length-4
 same-length-4 c = search needs
@@ -56,12 +63,12 @@ same-length-7 c = search needs
 
 returns-2 : tie.Need-returns-2
 returns-2 c =
-    let P = c .before .before .before .before .before .before .before .before .before .before .before .before .before .before .before .before .before .before .before .before .before .pre in
-    let I = c .before .before .before .before .before .before .before .before .before .before .before .before .before .intern .ensures in
+    let P = c .before .before .before .before .before .before .before .before .before .before .before .before .before .before .before .before .before .before .before .before .before .before .pre in
+    let I = c .before .before .before .before .before .before .before .before .before .before .before .before .before .before .intern .ensures in
     let w = length-floored _ _ _ ∙ P .label-wide in
-    (reach-link P w (I .0) (ap length (I .1) ∙ w) _ _ (omega (arith, c .before .before .before .before .before .before .if1 .left)) (c .before .before .before .push-edge .ensures), I .0 .place)
+    (reach-link P w (I .0) (ap length (I .1) ∙ w) _ _ (omega (arith, c .before .before .before .before .before .before .if1 .left)) (rw (c .before .before .before .before .before .before .before .before .with-elements .ensures) at (c .before .before .before .push-edge .ensures)), I .0 .place)
 
 pub reach-spec : {M : Type 1} → statement M
 reach-spec =
     tie.close
-    (tie.spec intern-requires bound-tripped-requires note-requires same-length same-length-2 same-length-3 returns push-edge-requires same-length-4 same-length-5 same-length-6 same-length-7 returns-2)
+    (tie.spec intern-requires with-elements-requires bound-tripped-requires note-requires with-reasons-requires tripping-requires same-length same-length-2 same-length-3 returns push-edge-requires same-length-4 same-length-5 same-length-6 same-length-7 returns-2)
