@@ -62,6 +62,10 @@ unfoldable pub programText : List ℕ → List ℕ
 programText s = cond (ltb 65536 (length s)) (refusalLine 9) (runText s (programRun s))
 
 -- ---- what is lent for the text
+-- room for any text: a line of at most 64 bytes, and 50 bytes for each of 4,096 axioms (`text-fits`)
+unfoldable pub textRoom : List ℕ
+textRoom = replicate 204864 0
+
 -- the length of the text and what the lent buffer then holds
 pub record Reported : Type 0 where
   pub size : ℕ

@@ -6,13 +6,14 @@ ghost use mathlib.Core.Path.{_≡_};
 ghost use lib.ListN.{length, take};
 ghost use Rattle.model.specs.declared.outcome.Outcome.{Outcome};
 ghost use Rattle.report.specs.Lines.{outcomeWord};
-ghost use Rattle.report.specs.Text.{reported, Confirms};
+ghost use Rattle.report.specs.Text.{reported, textRoom, Confirms};
 ghost use Rattle.report.specs.Text.{report as Text·report};
 use lines::put;
 use text::put_text;
 
 // Room for any text: a line of at most 64 bytes, and 50 bytes for each of 4,096 axioms.
 pub fn text_room() -> [u8; 204864]
+    ensures { λ r. ⌜ r ≡ textRoom ⌝ }
     ensures { λ r. ⌜ 204864 ≡ length r ⌝ }
 {
     [0; 204864]

@@ -25,13 +25,13 @@ report-requires : tie.Need-report-requires
 report-requires c κs = search needs
 
 array-share-prefix-text : tie.Need-array-share-prefix-text
-array-share-prefix-text c = let w = report-whole _ _ (omega (arith, c .before .before .before .before .before .before .before .text-room .ensures)) (c .before .before .report .ensures .0) in omega (arith, w .0, simp length-take at (ap length (w .1)))
+array-share-prefix-text c = let w = report-whole _ _ (omega (arith, c .before .before .before .before .before .before .before .text-room .ensures .1)) (c .before .before .report .ensures .0) in omega (arith, w .0, simp length-take at (ap length (w .1)))
 
 slice-aggregate-write-text : tie.Need-slice-aggregate-write-text
-slice-aggregate-write-text c = let w = report-whole _ _ (omega (arith, c .before .before .before .before .before .before .before .before .text-room .ensures)) (c .before .before .before .report .ensures .0) in w .0 ∙ sym (ap length (w .1))
+slice-aggregate-write-text c = let w = report-whole _ _ (omega (arith, c .before .before .before .before .before .before .before .before .text-room .ensures .1)) (c .before .before .before .report .ensures .0) in w .0 ∙ sym (ap length (w .1))
 
 write-text-requires : tie.Need-write-text-requires
-write-text-requires c κs = (report-whole _ _ (omega (arith, c .before .before .before .before .before .before .before .before .text-room .ensures)) (c .before .before .before .report .ensures .0)) .1
+write-text-requires c κs = (report-whole _ _ (omega (arith, c .before .before .before .before .before .before .before .before .text-room .ensures .1)) (c .before .before .before .report .ensures .0)) .1
 
 returns : tie.Need-returns
 returns c = search needs
