@@ -10,8 +10,8 @@ use native.Mathlib.Omega.{arith}
 use borrow.Author.Tests.{lt-ltb, eq-eqb}
 use lib.Dec.{ltb, eqb}
 use Rattle.deck.specs.declared.DeckAnswer.the-variants.{Accepted}
-use Rattle.deck.specs.Kind.{Flag, Class, RealClass, Role}
-use Rattle.deck.specs.Kind.{Fields, FieldList}
+use Rattle.deck.specs.declared.forms.Kind.the-variants.{Flag, Class, RealClass, Role}
+use Rattle.deck.specs.declared.forms.Form.the-variants.{Fields, FieldList}
 use Rattle.deck.specs.Answer.{trailerAnswer}
 use Rattle.deck.specs.Trailer.{partCount}
 use Rattle.deck.specs.Parts.{partWord}

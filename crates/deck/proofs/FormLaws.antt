@@ -1,19 +1,21 @@
 -- What the tests of rows and forms say: numbers and list words in range.
 -- Assumes nothing.
-use mathlib.Core.Path.{_≡_, _∙_}
-use mathlib.Core.Bool.{Bool, true, _&&_}
+use mathlib.Core.Path.{_≡_, refl}
+use mathlib.Core.Bool.{Bool, true, cond, _&&_}
 use mathlib.Core.List.{List}
 use Prim.Native.Nat.{ℕ, _+_, _-_, _<_, _≤_}
 use native.Mathlib.Omega.{arith}
 use borrow.Author.Tests.{ltb-true, leb-true, lt-ltb, le-leb}
-use Rattle.deck.specs.Kind.{Kind}
-use Rattle.deck.specs.Kind.{Zero, Flag, Class, RealClass, Role, RoleWord, Concept, Any}
-use Rattle.deck.specs.Kind.{Form}
-use Rattle.deck.specs.Kind.{Fields, ListField, FieldList, Unknown}
+use lib.Dec.{eqb}
+use lib.ListN.{getD}
+use Rattle.deck.specs.declared.forms.Kind.{Kind}
+use Rattle.deck.specs.declared.forms.Kind.the-variants.{Zero, Flag, Class, RealClass, Role, RoleWord, Concept, Any}
+use Rattle.deck.specs.declared.forms.Form.{Form}
+use Rattle.deck.specs.declared.forms.Form.the-variants.{Fields, ListField, FieldList, Unknown}
 use Rattle.deck.specs.Trailer.{partCount}
-use Rattle.deck.specs.Parts.{partWord, listWord}
+use Rattle.deck.specs.Parts.{listWord}
 use Rattle.deck.specs.Rows.{rowFits, rowShape, rowRises, wordBelow, wordRises}
-use Rattle.deck.specs.Forms.{Counts, boundOf, countsOf, fits, wordsFit, formShape}
+use Rattle.deck.specs.Forms.{Counts, boundOf, countsOf, fits, wordsFit, placeOf, boundsOf, AreBounds}
 use Rattle.deck.specs.Content.{listAt, deckOf}
 use Rattle.deck.specs.Sound.{EachBelow, Rises, countsIn}
 use Rattle.deck.specs.Reads.{ListFits, FormFits}
@@ -93,10 +95,19 @@ module _ (s : List ℕ) (c d : ℕ) (l : c ≤ d) where
       both (fits (countsOf s) c a x) (rowShape s y z (boundOf (countsOf s) c e)) _ _ (fits-more a x) (row-more s y z _ _ (bound-more e)) h
   form-more Unknown x y z h = h
 
--- the test of words and counts that are those of a record
-pub tested : (s : List ℕ) (n : Counts) (c p k f : ℕ) (form F : Form) (x y z : ℕ) (r : Bool) → n ≡ countsOf s → form ≡ F
-    → x ≡ partWord s p k f → y ≡ partWord s p k (f + 1) → z ≡ partWord s p k (f + 2) → r ≡ wordsFit s n c F x y z → r ≡ formShape s p k f c form
-tested s n c p k f form F x y z r en ef ex ey ez h = h ∙ rw (en, ← ef, ex, ey, ez)
+-- a bound among those that are lent
+pub bound-at : (n : Counts) (c : ℕ) (kind : Kind) → cond (eqb (placeOf kind) 6) c (getD (boundsOf n) (placeOf kind) 0) ≡ boundOf n c kind
+bound-at n c Zero = refl
+bound-at n c Flag = refl
+bound-at n c Class = refl
+bound-at n c RealClass = refl
+bound-at n c Role = refl
+bound-at n c RoleWord = refl
+bound-at n c Concept = refl
+bound-at n c Any = refl
+
+pub are-bounds : (n : Counts) {l : List ℕ} → l ≡ boundsOf n → AreBounds l
+are-bounds n h = rw h
 
 module _ (s : List ℕ) (c : ℕ) where
   field-fits : (kind : Kind) (w : ℕ) → fits (countsOf s) c kind w ≡ true → w < boundOf (countsIn (deckOf s)) c kind

@@ -16,8 +16,8 @@ use Rattle.deck.specs.declared.axioms.AxiomRecord.{AxiomRecord}
 use Rattle.deck.specs.declared.facts.FactRecord.{FactRecord}
 use Rattle.deck.specs.declared.injected.InjectedClass.{InjectedClass}
 use Rattle.deck.specs.declared.injected.InjectedClass.the-variants.{Found, Absent}
-use Rattle.deck.specs.Kind.{Flag, Class}
-use Rattle.deck.specs.Kind.{FieldList}
+use Rattle.deck.specs.declared.forms.Kind.the-variants.{Flag, Class}
+use Rattle.deck.specs.declared.forms.Form.the-variants.{FieldList}
 use Rattle.deck.specs.Trailer.{partCount}
 use Rattle.deck.specs.Parts.{partWord}
 use Rattle.deck.specs.Rows.{rowShape, rowRises}

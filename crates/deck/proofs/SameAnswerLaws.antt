@@ -7,9 +7,9 @@ use mathlib.Core.List.{List}
 use Prim.Native.Nat.{ℕ, _+_, _-_, _<_, _≤_}
 use native.Mathlib.Omega.{arith}
 use Rattle.deck.specs.declared.DeckAnswer.the-variants.{Accepted}
-use Rattle.deck.specs.Kind.{Flag, Class, RealClass, Role}
-use Rattle.deck.specs.Kind.{Form}
-use Rattle.deck.specs.Kind.{Fields, ListField, FieldList, Unknown}
+use Rattle.deck.specs.declared.forms.Kind.the-variants.{Flag, Class, RealClass, Role}
+use Rattle.deck.specs.declared.forms.Form.{Form}
+use Rattle.deck.specs.declared.forms.Form.the-variants.{Fields, ListField, FieldList, Unknown}
 use Rattle.deck.specs.Answer.{firstRefusal, trailerAnswer}
 use Rattle.deck.specs.Trailer.{partCount}
 use Rattle.deck.specs.Parts.{partWord, listWord}

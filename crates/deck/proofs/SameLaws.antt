@@ -8,8 +8,8 @@ use mathlib.Core.List.{List}
 use Prim.Native.Nat.{ℕ, _+_, _<_, _≤_}
 use native.Mathlib.Omega.{arith}
 use lib.ListN.{length, getD, List·getD-eq-default}
-use Rattle.deck.specs.Kind.{Form}
-use Rattle.deck.specs.Kind.{Fields, ListField, FieldList, Unknown}
+use Rattle.deck.specs.declared.forms.Form.{Form}
+use Rattle.deck.specs.declared.forms.Form.the-variants.{Fields, ListField, FieldList, Unknown}
 use Rattle.deck.specs.Trailer.{partCount, dropped}
 use Rattle.deck.specs.Parts.{partWord, listWord}
 use Rattle.deck.specs.Records.{conceptForm, conceptForms, axiomForm, axiomForms}

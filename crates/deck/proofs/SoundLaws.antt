@@ -9,8 +9,8 @@ use native.Mathlib.Omega.{arith}
 use borrow.Author.Tests.{ltb-true, eqb-true, ne-eqb}
 use lib.Dec.{ltb, eqb, lit≤}
 use lib.ListN.{length}
-use Rattle.deck.specs.Kind.{Flag, Class, RealClass, Role}
-use Rattle.deck.specs.Kind.{Fields, FieldList}
+use Rattle.deck.specs.declared.forms.Kind.the-variants.{Flag, Class, RealClass, Role}
+use Rattle.deck.specs.declared.forms.Form.the-variants.{Fields, FieldList}
 use Rattle.deck.specs.Trailer.{partCount, realOf, limitOf}
 use Rattle.deck.specs.Parts.{partWord}
 use Rattle.deck.specs.Rows.{rowShape, rowRises, rowHas}

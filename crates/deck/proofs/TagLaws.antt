@@ -8,8 +8,8 @@ use Prim.Native.Nat.{ℕ, _+_, _*_, _/_, _<_, _≤_}
 use native.Mathlib.Omega.{arith}
 use lib.ListN.{length, getD, length-map, List·getD-map, List·getD-eq-default}
 use Rattle.deck.specs.declared.rows.Span.{Span}
-use Rattle.deck.specs.Kind.{Form}
-use Rattle.deck.specs.Kind.{Unknown}
+use Rattle.deck.specs.declared.forms.Form.{Form}
+use Rattle.deck.specs.declared.forms.Form.the-variants.{Unknown}
 use Rattle.deck.specs.Numbers.{inverseWord}
 use Rattle.deck.specs.Deck.{Role, roleOf, roleId, classCount, roleCount}
 use Rattle.deck.specs.Records.{conceptForm, conceptForms, axiomForm, axiomForms}

@@ -6,8 +6,8 @@ use mathlib.Core.Bool.{Bool}
 use lib.Dec.{eqb}
 use lib.ListN.{getD}
 use Rattle.deck.specs.declared.DeckAnswer.the-variants.{Accepted}
-use Rattle.deck.specs.Kind.{Form}
-use Rattle.deck.specs.Kind.{Fields, ListField, FieldList, Unknown}
+use Rattle.deck.specs.declared.forms.Form.{Form}
+use Rattle.deck.specs.declared.forms.Form.the-variants.{Fields, ListField, FieldList, Unknown}
 use Rattle.deck.specs.Trailer.{partCount, realOf, dropped}
 use Rattle.deck.specs.Parts.{partWord, listWord}
 use Rattle.deck.specs.Records.{deckAnswer, conceptForm, axiomForm}

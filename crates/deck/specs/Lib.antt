@@ -6,7 +6,6 @@ pub mod Trailer
 pub mod Answer
 pub mod Parts
 pub mod Rows
-pub mod Kind
 pub mod Forms
 pub mod Records
 pub mod Deck

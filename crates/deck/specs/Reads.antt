@@ -6,9 +6,9 @@ use lib.ListN.{getD}
 use Rattle.deck.specs.declared.rows.Span.{Span}
 use Rattle.deck.specs.declared.injected.InjectedClass.{InjectedClass}
 use Rattle.deck.specs.Parts.{partWord}
-use Rattle.deck.specs.Kind.{Kind}
-use Rattle.deck.specs.Kind.{Form}
-use Rattle.deck.specs.Kind.{Fields, ListField, FieldList, Unknown}
+use Rattle.deck.specs.declared.forms.Kind.{Kind}
+use Rattle.deck.specs.declared.forms.Form.{Form}
+use Rattle.deck.specs.declared.forms.Form.the-variants.{Fields, ListField, FieldList, Unknown}
 use Rattle.deck.specs.declared.concepts.ConceptExpr.{ConceptExpr}
 use Rattle.deck.specs.declared.axioms.AxiomRecord.{AxiomRecord}
 use Rattle.deck.specs.declared.facts.FactRecord.{FactRecord}

@@ -7,9 +7,9 @@ use lib.ListN.{getD}
 use Rattle.deck.specs.declared.refusal.Refusal.the-variants.{BadField, BadOrder, ForwardOperand}
 use Rattle.deck.specs.declared.DeckAnswer.{DeckAnswer}
 use Rattle.deck.specs.declared.DeckAnswer.the-variants.{Accepted}
-use Rattle.deck.specs.Kind.{Zero, Flag, Class, RealClass, Role, RoleWord, Concept, Any}
-use Rattle.deck.specs.Kind.{Form}
-use Rattle.deck.specs.Kind.{Fields, ListField, FieldList, Unknown}
+use Rattle.deck.specs.declared.forms.Kind.the-variants.{Zero, Flag, Class, RealClass, Role, RoleWord, Concept, Any}
+use Rattle.deck.specs.declared.forms.Form.{Form}
+use Rattle.deck.specs.declared.forms.Form.the-variants.{Fields, ListField, FieldList, Unknown}
 use Rattle.deck.specs.Answer.{unless, orElse, firstRefusal, trailerAnswer}
 use Rattle.deck.specs.Trailer.{partCount}
 use Rattle.deck.specs.Parts.{partWord}

@@ -54,5 +54,6 @@ pub fn check_deck(deck: &[u8]) -> DeckAnswer
     if let DeckAnswer::Refused(_) = answer {
         return answer;
     }
-    records::records_answer(deck)
+    let bounds = forms::bounds_of(deck);
+    records::records_answer(deck, &bounds)
 }

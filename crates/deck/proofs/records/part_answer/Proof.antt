@@ -16,28 +16,23 @@ use Rattle.deck.proofs.parts.count.Reads as count-reads
 use Rattle.deck.proofs.records.record_answer.Reads as record-answer-reads
 
 abbrev Inv-loop : tie.InvT-loop
-Inv-loop deck p n k₀ k = (k ≤ n) × (firstRefusal (recordAnswer deck p) k ≡ Accepted)
+Inv-loop deck bounds p n k₀ k = (k ≤ n) × (firstRefusal (recordAnswer deck p) k ≡ Accepted)
 
 abbrev μ-loop : tie.MeasureT-loop
-μ-loop deck p n k₀ k = n - k
+μ-loop deck bounds p n k₀ k = n - k
 
--- src/records.rt:257:9
 count-requires : tie.Need-count-requires Inv-loop μ-loop
 count-requires c κs = search needs
 
--- src/records.rt:259:5
 loop-holds : tie.Need-loop-holds Inv-loop μ-loop
 loop-holds c = (search needs, first-none _)
 
--- src/records.rt:260:13
 record-answer-requires : tie.Need-record-answer-requires Inv-loop μ-loop
-record-answer-requires c κs = search needs
+record-answer-requires c κs = let at = c .before .before .before .before in (at .pre .0, (at .pre .1 .0, (at .pre .1 .1, omega arith)))
 
--- src/records.rt:262:13
 enum-told : tie.Need-enum-told Inv-loop μ-loop
 enum-told c = search needs
 
--- src/records.rt:262:13
 returns : tie.Need-returns Inv-loop μ-loop
 unfolding partAnswer
 returns c =
@@ -49,21 +44,17 @@ returns c =
 enum-told-2 : tie.Need-enum-told-2 Inv-loop μ-loop
 enum-told-2 c = search needs
 
--- src/records.rt:264:9
 add-k : tie.Need-add-k Inv-loop μ-loop
 add-k c = search needs
 
--- src/records.rt:259:5
 loop-less : tie.Need-loop-less Inv-loop μ-loop
 loop-less c = search needs
 
--- src/records.rt:259:5
 loop-again : tie.Need-loop-again Inv-loop μ-loop
 loop-again c =
     let call = c .before .before in
     (search needs, first-more _ _ (call .before .before .loop .inv .1) (sym (call .record-answer .ensures) ∙ c .enum-told2 .given .1))
 
--- src/records.rt:252:1
 returns-2 : tie.Need-returns-2 Inv-loop μ-loop
 unfolding partAnswer
 returns-2 c =
