@@ -40,6 +40,30 @@ fn implication(ante: Judgement, cons: Judgement) -> Judgement
     }
 }
 
+// `sub` implies `sup` at e. Where the subclass is false the superclass is not looked at.
+fn implied_at(
+    deck: &[u8],
+    labels: &[u64],
+    edges: &[[u32; 3]],
+    shape: Shape,
+    sub: ConceptId,
+    sup: ConceptId,
+    e: Element,
+) -> Judgement
+    requires { ⌜ Fits (now deck) (now labels) (now edges) shape ⌝ }
+    requires { ⌜ sub .0 < conceptCount (deckOf (now deck)) ⌝ }
+    requires { ⌜ sup .0 < conceptCount (deckOf (now deck)) ⌝ }
+    requires { ⌜ e .0 < shape .elements ⌝ }
+    ensures { λ j. ⌜ j ≡ implies (judge (deckOf (now (deck .entry))) (structureOf (deckOf (now (deck .entry))) (now (labels .entry)) (now (edges .entry)) shape) (sub .0) (e .0)) (judge (deckOf (now (deck .entry))) (structureOf (deckOf (now (deck .entry))) (now (labels .entry)) (now (edges .entry)) shape) (sup .0) (e .0)) ⌝ }
+{
+    let ante = eval_concept(deck, labels, edges, shape, sub, e);
+    if let Judgement::False = ante {
+        return Judgement::True;
+    }
+    let cons = eval_concept(deck, labels, edges, shape, sup, e);
+    implication(ante, cons)
+}
+
 pub fn check_sub_class_of(
     deck: &[u8],
     labels: &[u64],
@@ -57,9 +81,8 @@ pub fn check_sub_class_of(
     let mut standing = Standing::new();
     let mut e = 0;
     while e < elements {
-        let ante = eval_concept(deck, labels, edges, shape, sub, Element(e));
-        let cons = eval_concept(deck, labels, edges, shape, sup, Element(e));
-        standing = standing.and(implication(ante, cons));
+        let j = implied_at(deck, labels, edges, shape, sub, sup, Element(e));
+        standing = standing.and(j);
         let ended = standing.ended;
         if ended {
             return Verdict::Fails(Witnesses::One(Element(e)));

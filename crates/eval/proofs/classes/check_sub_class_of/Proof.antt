@@ -11,8 +11,7 @@ use Rattle.eval.proofs.classes.check_sub_class_of.Statement.{statement}
 use Rattle.eval.proofs.classes.check_sub_class_of.Tie as tie
 use Rattle.eval.proofs.classes.check_sub_class_of.Reads as reads
 use Rattle.eval.proofs.classes.check_sub_class_of.Lts as lts
-use Rattle.eval.proofs.classes.implication.Reads as implication-reads
-use Rattle.eval.proofs.concepts.eval_concept.Reads as eval-concept-reads
+use Rattle.eval.proofs.classes.implied_at.Reads as implied-at-reads
 use Rattle.eval.proofs.standing.Standing.and.Reads as and-reads
 use Rattle.eval.proofs.standing.Standing.new.Reads as new-reads
 use Rattle.eval.proofs.verdict.unresolved_or_holds.Reads as unresolved-or-holds-reads
@@ -31,30 +30,24 @@ new-requires c κs = search needs
 loop-holds : tie.Need-loop-holds Inv-loop μ-loop
 loop-holds c = passed-none _ _ (c .new .ensures)
 
-eval-concept-requires : tie.Need-eval-concept-requires Inv-loop μ-loop
-eval-concept-requires c κs = let z = c .before .before .before .before .before in (z .pre .0, (z .pre .1 .0, omega arith))
-
-eval-concept-requires-2 : tie.Need-eval-concept-requires-2 Inv-loop μ-loop
-eval-concept-requires-2 c κs = let z = c .before .before .before .before .before .before in (z .pre .0, (z .pre .1 .1, omega arith))
-
-implication-requires : tie.Need-implication-requires Inv-loop μ-loop
-implication-requires c κs = search needs
+implied-at-requires : tie.Need-implied-at-requires Inv-loop μ-loop
+implied-at-requires c κs = let z = c .before .before .before .before .before in (z .pre .0, (z .pre .1 .0, (z .pre .1 .1, omega arith)))
 
 and-requires : tie.Need-and-requires Inv-loop μ-loop
 and-requires c κs = search needs
 
 returns : tie.Need-returns Inv-loop μ-loop
 unfolding verdict
-returns c = passed-stop (c .before .before .before .before .before .before .loop .inv) (omega arith) (rw (c .before .before .before .before .eval-concept .ensures, c .before .before .before .eval-concept2 .ensures) at (c .before .before .implication .ensures)) (c .before .and .ensures) (c .if1 .taken)
+returns c = passed-stop (c .before .before .before .before .loop .inv) (omega arith) (c .before .before .implied-at .ensures) (c .before .and .ensures) (c .if1 .taken)
 
 add-e : tie.Need-add-e Inv-loop μ-loop
-add-e c = omega (arith, c .before .before .before .before .before .before .before .before .before .before .good)
+add-e c = omega (arith, c .before .before .before .before .before .before .before .before .good)
 
 loop-less : tie.Need-loop-less Inv-loop μ-loop
 loop-less c = omega arith
 
 loop-again : tie.Need-loop-again Inv-loop μ-loop
-loop-again c = passed-more (c .before .before .before .before .before .before .loop .inv) (omega arith) (rw (c .before .before .before .before .eval-concept .ensures, c .before .before .before .eval-concept2 .ensures) at (c .before .before .implication .ensures)) (c .before .and .ensures) (c .if1 .left)
+loop-again c = passed-more (c .before .before .before .before .loop .inv) (omega arith) (c .before .before .implied-at .ensures) (c .before .and .ensures) (c .if1 .left)
 
 unresolved-or-holds-requires : tie.Need-unresolved-or-holds-requires Inv-loop μ-loop
 unresolved-or-holds-requires c κs = search needs
@@ -71,9 +64,7 @@ check-sub-class-of-spec =
     μ-loop
     new-requires
     loop-holds
-    eval-concept-requires
-    eval-concept-requires-2
-    implication-requires
+    implied-at-requires
     and-requires
     returns
     add-e
