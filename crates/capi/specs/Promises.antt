@@ -26,7 +26,7 @@ pub record Judged (D : Deck) (S : Structure) (c e : ℕ) (answer : List ℕ) : T
   pub right : (χ : Choice) → Right judgement (ext D S χ c e)
   pub exact : plain D c ≡ true → (χ : Choice) → judgement ≡ truth (ext D S χ c e)
 
--- "Holds only for a true axiom, Fails only for one false at its witnesses; exact on the plain part"
+-- Holds only for a true axiom, Fails only for one false at its witnesses; exact on the plain part
 pub record Checked (D : Deck) (S : Structure) (a : ℕ) (answer : List ℕ) : Type 0 where
   pub verdict : Verdict
   pub words : take 4 answer ≡ wordsOf verdict

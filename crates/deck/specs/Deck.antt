@@ -8,23 +8,23 @@ use Rattle.deck.specs.declared.injected.InjectedClass.{InjectedClass}
 use Rattle.deck.specs.declared.injected.InjectedClass.the-variants.{Found, Absent}
 use Rattle.deck.specs.Numbers.{inverseWord, roleNumber}
 
--- "classes: 1 if unsatisfiable else 0; row start; row count", the row with its words
+-- classes: "1 if unsatisfiable else 0; row start; row count", the row with its words
 pub record ClassEntry : Type 0 where
   pub unsatisfiable : Bool
   pub row : List ℕ
 
--- "roles: sub-role row start, count; range row start, count"
+-- roles: "sub-role row start, count; range row start, count"
 pub record RoleEntry : Type 0 where
   pub subRoles : List ℕ
   pub range : List ℕ
 
--- "injected: class y, role r, class q"
+-- injected: "class y, role r, class q"
 pub record InjectedEntry : Type 0 where
   pub class : ℕ
   pub role : ℕ
   pub filler : ℕ
 
--- "facts: class, role, class"
+-- facts: "class, role, class"
 pub record Fact : Type 0 where
   pub from : ℕ
   pub role : ℕ

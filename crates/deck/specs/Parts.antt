@@ -12,6 +12,6 @@ partPlace s p k f = partStart s p + k * widthOf p + f
 unfoldable pub partWord : List ℕ → ℕ → ℕ → ℕ → ℕ
 partWord s p k f = wordAt s (partPlace s p k f)
 
--- "lists (L): one word"
+-- lists: "one word"
 abbrev pub listWord : List ℕ → ℕ → ℕ
 listWord s i = partWord s 6 i 0

@@ -16,7 +16,7 @@ use Rattle.deck.specs.Parts.{partWord}
 use Rattle.deck.specs.Rows.{rowShape, rowRises, rowHas}
 use Rattle.deck.specs.Forms.{formShape}
 
--- "classes: 1 if unsatisfiable else 0; row start; row count"
+-- classes: "1 if unsatisfiable else 0; row start; row count"
 abbrev pub classShape : List ℕ → ℕ → Bool
 classShape s k = formShape s 0 k 0 0 (FieldList Flag Class)
 
@@ -28,7 +28,7 @@ classOrder s k =
 unfoldable pub classAnswer : List ℕ → ℕ → DeckAnswer
 classAnswer s k = unless (classShape s k) BadField (unless (classOrder s k) BadOrder Accepted)
 
--- "roles: sub-role row start, count; range row start, count"
+-- roles: "sub-role row start, count; range row start, count"
 abbrev pub roleShape : List ℕ → ℕ → Bool
 roleShape s k =
     rowShape s (partWord s 1 k 0) (partWord s 1 k 1) (partCount s 1) && rowShape s (partWord s 1 k 2) (partWord s 1 k 3) (partCount s 0)
@@ -42,7 +42,7 @@ roleOrder s k =
 unfoldable pub roleAnswer : List ℕ → ℕ → DeckAnswer
 roleAnswer s k = unless (roleShape s k) BadField (unless (roleOrder s k) BadOrder Accepted)
 
--- "injected: class y, role r, class q, with q under M"
+-- injected: "class y, role r, class q, with q under M"
 abbrev pub injectedShape : List ℕ → ℕ → Bool
 injectedShape s k = formShape s 2 k 0 0 (Fields Class Role RealClass)
 
@@ -120,7 +120,7 @@ axiomForm tag = getD axiomForms tag Unknown
 unfoldable pub axiomAnswer : List ℕ → ℕ → DeckAnswer
 axiomAnswer s k = unless (formShape s 4 k 1 (partCount s 3) (axiomForm (partWord s 4 k 0))) BadField Accepted
 
--- "facts: class, role, class"
+-- facts: "class, role, class"
 abbrev pub factShape : List ℕ → ℕ → Bool
 factShape s k = formShape s 5 k 0 0 (Fields Class Role Class)
 

@@ -1,4 +1,4 @@
--- When a lent structure fits an accepted deck. Document 01, section 1: "foreign structure: count above its buffer or above 65,536 elements, edge end or role out of range, label bit at or past N set".
+-- When a lent structure fits an accepted deck. Document 01, section 1: a foreign structure is "count above its buffer or above 65,536 elements, edge end or role out of range, label bit at or past N set".
 use Prim.Native.Nat.{ℕ, _+_, _-_, _*_}
 use mathlib.Core.Bool.{Bool, not, _&&_}
 use mathlib.Core.List.{List, []}

@@ -30,7 +30,7 @@ use Rattle.model.specs.Rules.{ruleOf, RuleFits}
 use Rattle.model.specs.Walk.{walk}
 use Rattle.model.specs.Closing.{graph, join, closeFrom, closeRule, closeBy, closeAxiom, closePass, EdgesFit, Ready}
 use Rattle.model.proofs.PushLaws.{left-room, left-edges}
-use Rattle.model.proofs.WalkLaws.{walk-keeps, walk-fixed}
+use Rattle.model.proofs.WalkLaws.{walk-keeps, walk-fixed, walk-placed}
 
 -- ---- the edges of a state
 rows-edges : (es : List Edge) → map edgeOf (map rowOf es) ≡ es
@@ -70,6 +70,10 @@ linked-fits D n es F r x y h =
     let to = eqb (e .0 .to .0) y in
     let f = F (e .0) (e .1) in
     (rw (eqb-true (e .0 .from .0) x (and-left from _ (e .2))) at (f .from), rw (eqb-true (e .0 .to .0) y (and-left to _ (and-right from _ (e .2)))) at (f .to))
+
+pub pass-in-order : (D : Deck) (n limit : ℕ) (s : State) → closePass D n limit s ≡ walk (closeAxiom D n limit) (D .axioms) s
+unfolding closePass
+pass-in-order D n limit s = walk-placed (Axiom.DeclareClass 0) (closeAxiom D n limit) (D .axioms) s
 
 module _ (D : Deck) (n limit : ℕ) where
   -- ---- one edge
@@ -160,8 +164,7 @@ module _ (D : Deck) (n limit : ℕ) where
     axiom-keeps x K s qs = by-keeps (ruleOf x) K s qs
 
     pub pass-keeps : ((x : Axiom) → Member x (D .axioms) → KeepsBy Q (ruleOf x)) → (s : State) → Q s → Q (closePass D n limit s)
-    unfolding closePass
-    pass-keeps K s qs = walk-keeps Q (closeAxiom D n limit) (D .axioms) (λ x i t qt. axiom-keeps x (K x i) t qt) s qs
+    pass-keeps K s qs = rw (pass-in-order D n limit s) (walk-keeps Q (closeAxiom D n limit) (D .axioms) (λ x i t qt. axiom-keeps x (K x i) t qt) s qs)
 
 -- ---- edges are only added, at the end
 pub record Grows (es fs : List Edge) : Type 0 where
@@ -211,8 +214,7 @@ module _ (D : Deck) (n limit : ℕ) where
   axiom-grows x s = by-grows (ruleOf x) s
 
   pub pass-grows : (s : State) → Grows (s .edges) (closePass D n limit s .edges)
-  unfolding closePass
-  pass-grows s = walk-grows (closeAxiom D n limit) axiom-grows (D .axioms) s
+  pass-grows s = rw (pass-in-order D n limit s) (walk-grows (closeAxiom D n limit) axiom-grows (D .axioms) s)
 
   -- ---- within the bound
   pub bound-keeps : (q : Rule) → KeepsBy D n limit (Bound limit) q

@@ -32,7 +32,7 @@ use Rattle.model.specs.Walk.{walk}
 use Rattle.model.specs.Closing.{graph, join, closeFrom, closeRule, closeAxiom, closePass, closing, close, EdgesFit}
 use Rattle.model.proofs.WalkLaws.{walk-keeps}
 use Rattle.model.proofs.RuleLaws.{rule-fits-in}
-use Rattle.model.proofs.CloseLaws.{linked-is, linked-fits, join-stuck, join-new, join-grows, from-stuck, from-grows, axiom-stuck, axiom-grows, axiom-by, Keeps, KeepsBy, pass-keeps, Bound, bound-keeps, fits-keeps, FitState, Grows, grows-length, walk-grows}
+use Rattle.model.proofs.CloseLaws.{pass-in-order, linked-is, linked-fits, join-stuck, join-new, join-grows, from-stuck, from-grows, axiom-stuck, axiom-grows, axiom-by, Keeps, KeepsBy, pass-keeps, Bound, bound-keeps, fits-keeps, FitState, Grows, grows-length, walk-grows}
 use Rattle.model.proofs.Passes.{ends, goes-on, close-step}
 
 -- ---- a walk that adds nothing
@@ -107,12 +107,12 @@ module _ (D : Deck) (n limit : ℕ) where
   -- ---- where a pass changes nothing, every rule's edges are there
   pass-closed : Sound D → (t : State) → t .tripped ≡ false → EdgesFit D n (t .edges) → length (closePass D n limit t .edges) ≡ length (t .edges)
       → (x : Axiom) → Member x (D .axioms) → (a b v : RoleId) → ruleOf x ≡ Compose a b v → (p q r : ℕ) → linked D (t .edges) (a .0) p q ≡ true → linked D (t .edges) (b .0) q r ≡ true → linked D (t .edges) (v .0) p r ≡ true
-  unfolding closePass closeRule closeFrom
+  unfolding closeRule closeFrom
   pass-closed S t e F l x m a b v i p q r ea eb =
       let G = graph n (t .edges) in
       let wa = linked-fits D n (t .edges) F (a .0) p q ea in
       let wb = linked-fits D n (t .edges) F (b .0) q r eb in
-      let one : closeRule D n limit (a .0) (b .0) (v .0) t ≡ t = axiom-by D n limit x t i ∙ walk-step (closeAxiom D n limit) axiom-steady (D .axioms) t e l x m in
+      let one : closeRule D n limit (a .0) (b .0) (v .0) t ≡ t = axiom-by D n limit x t i ∙ walk-step (closeAxiom D n limit) axiom-steady (D .axioms) t e (rw (pass-in-order D n limit t) at l) x m in
       let two = walk-step (closeFrom D n limit (b .0) (v .0)) (from-steady (b .0) (v .0)) (pairs D G (a .0)) t e (ap (λ (u : State). length (u .edges)) one) (pair p q)
       (edge-laws.pair-in D G (a .0) p q (record { from-in = wa .0; to-in = wa .1; has = linked-is D n (t .edges) (a .0) p q ∙ ea })) in
       let three = walk-step (join D n limit (v .0) p) (join-steady (v .0) p) (successors D G (b .0) q) t e (ap (λ (u : State). length (u .edges)) two) r
@@ -127,11 +127,13 @@ module _ (D : Deck) (n limit : ℕ) where
 
   -- ---- closing ends where a pass changes nothing
   settled-now : (s : State) → closePass D n limit s .tripped ≡ false → ends D n limit s ≡ true → closePass D n limit s ≡ s
-  unfolding ends closePass
-  settled-now s e w = walk-still (closeAxiom D n limit) axiom-steady (D .axioms) s quiet (eqb-true _ _ (rw e at w))
+  unfolding ends
+  settled-now s e w =
+      let same : length (closePass D n limit s .edges) ≡ length (s .edges) = eqb-true _ _ (rw e at w) in
+      pass-in-order D n limit s ∙ walk-still (closeAxiom D n limit) axiom-steady (D .axioms) s quiet (rw (pass-in-order D n limit s) at same)
     where
       quiet : s .tripped ≡ false
-      quiet = quiet-or s (λ q. clash (cc (walk-stuck (closeAxiom D n limit) axiom-steady (D .axioms) s q))) (λ q. q)
+      quiet = quiet-or s (λ q. clash (cc (pass-in-order D n limit s, walk-stuck (closeAxiom D n limit) axiom-steady (D .axioms) s q))) (λ q. q)
 
   Settled : State → Type 0
   Settled s = close D n limit s .tripped ≡ false → closePass D n limit (close D n limit s) ≡ close D n limit s

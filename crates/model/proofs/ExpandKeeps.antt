@@ -21,7 +21,7 @@ use Rattle.model.specs.Expand.{highest, linkTarget, workFact, factStep, 
 use Rattle.model.proofs.InternLaws.{by-cond, by-case}
 use Rattle.model.proofs.SeedLaws.{noFact}
 use Rattle.model.proofs.TidyLaws.{Tidy, tidy-row-label}
-use Rattle.model.proofs.ExpandLaws.{highest-is}
+use Rattle.model.proofs.ExpandLaws.{highest-is, facts-in-order}
 use Rattle.model.proofs.KeepLaws.{Kept, kept-same, kept-trans, note-kept, walk-kept, reach-kept}
 
 module _ (D : Deck) (W : Sound D) (floor : List ℕ) (F : Tidy D floor) (B : Bounds) where
@@ -43,10 +43,10 @@ module _ (D : Deck) (W : Sound D) (floor : List ℕ) (F : Tidy D floor) (B : Bou
         (by-case (Kept D B m) (m .state .tripped) m linked (λ w. kept-same m) (link-kept (f .to) (f .role) (targetOf D (f .to) (f .role)) m (fact-role f i) h)) (kept-same m)
 
     class-kept : (k : ℕ) (m : Model) → e < length (m .labels) → Kept D B m (classStep D floor B e k m)
-    unfolding classStep workFacts
+    unfolding classStep
     class-kept k m h =
         by-cond (Kept D B m) (labelHas (getD (m .labels) e []) k) (workFacts D floor B e k m) m
-        (walk-kept (suc e) (factStep D floor B e k) (D .facts) (fact-kept k) m h) (kept-same m)
+        (rw (facts-in-order D floor B e k m) (walk-kept (suc e) (factStep D floor B e k) (D .facts) (fact-kept k) m h)) (kept-same m)
 
     pub classes-kept : (m : Model) → e < length (m .labels) → Kept D B m (workClasses D floor B e m)
     unfolding workClasses

@@ -26,7 +26,9 @@ use Rattle.model.specs.Model.{Model, Buffers, begun, Built, Prepared}
 use Rattle.model.specs.Expand.{linkTarget, workFact, factStep, workFacts, classStep, workClasses, highest, nextTurn, turns, expandIn}
 use Rattle.model.proofs.MemberLaws.{has-insert, none-has}
 use Rattle.model.proofs.RowLaws.{length-rows}
-use Rattle.model.proofs.WalkLaws.{walk-fixed}
+use Rattle.model.specs.Walk.{walk}
+use Rattle.model.proofs.SeedLaws.{noFact}
+use Rattle.model.proofs.WalkLaws.{walk-fixed, walk-placed}
 use Rattle.model.proofs.BuildLaws.{built-is, built-same, built-trans, built-start, built-quiet, built-tripped}
 
 cond-true : {A : Type 0} (b : Bool) (x y : A) → b ≡ true → cond b x y ≡ x
@@ -57,9 +59,12 @@ module _ (D : Deck) (floor : List ℕ) (B : Bounds) (e : ℕ) where
   fact-own k f g m w q h p = rw (p, ← q) (sym (cond-true (eqb (g .from) k) _ m (eq-eqb (g .from) k h) ∙ cond-false (m .state .tripped) m _ w))
 
   -- ---- a class
-  pub facts-stuck : (k : ℕ) (m : Model) → m .state .tripped ≡ true → workFacts D floor B e k m ≡ m
+  pub facts-in-order : (k : ℕ) (m : Model) → workFacts D floor B e k m ≡ walk (factStep D floor B e k) (D .facts) m
   unfolding workFacts
-  facts-stuck k m w = walk-fixed (factStep D floor B e k) (D .facts) m (λ f. fact-stuck k f m w)
+  facts-in-order k m = walk-placed noFact (factStep D floor B e k) (D .facts) m
+
+  pub facts-stuck : (k : ℕ) (m : Model) → m .state .tripped ≡ true → workFacts D floor B e k m ≡ m
+  facts-stuck k m w = facts-in-order k m ∙ walk-fixed (factStep D floor B e k) (D .facts) m (λ f. fact-stuck k f m w)
 
   pub class-stuck : (k : ℕ) (m : Model) → m .state .tripped ≡ true → classStep D floor B e k m ≡ m
   unfolding classStep

@@ -23,7 +23,7 @@ use Rattle.model.proofs.InternLaws.{by-cond, by-case}
 use Rattle.model.proofs.TidyLaws.{Tidy, tidy-zeros, tidy-floored, takes-row}
 use Rattle.model.proofs.BodyLaws.{body-keeps}
 use Rattle.model.proofs.ExistsLaws.{below-work}
-use Rattle.model.proofs.RoundLaws.{axiom-case}
+use Rattle.model.proofs.RoundLaws.{axiom-case, visit-in-order}
 use Rattle.model.proofs.KeepLaws.{Kept, kept-same, kept-trans, trip-kept, reasons-kept, walk-kept, index-below, reach-kept}
 
 module _ (D : Deck) (W : Sound D) (floor : List ℕ) (T : Tidy D floor) (B : Bounds) where
@@ -79,8 +79,7 @@ module _ (D : Deck) (W : Sound D) (floor : List ℕ) (T : Tidy D floor) (B : Bou
     axiom-kept x m h = axiom-case D floor B e m (Kept D B m) (kept-same m) (λ ante sup. fire-kept ante sup m h) (λ l. walk-kept (suc e) (fireFrom D floor B e l) l (λ a i. from-kept l a) m h) x
 
     visit-kept : (m : Model) → e < length (m .labels) → Kept D B m (visit D floor B e m)
-    unfolding visit
-    visit-kept = walk-kept (suc e) (fireAxiom D floor B e) (D .axioms) (λ x i. axiom-kept x)
+    visit-kept m h = rw (visit-in-order D floor B e m) (walk-kept (suc e) (fireAxiom D floor B e) (D .axioms) (λ x i. axiom-kept x) m h)
 
   -- ---- rounds
   round-kept : (m : Model) → Kept D B m (round D floor B m)

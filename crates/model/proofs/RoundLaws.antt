@@ -34,7 +34,7 @@ use Rattle.model.proofs.ExistsLaws.{work-stuck}
 use Rattle.model.proofs.RowLaws.{length-rows}
 use Rattle.model.proofs.InternLaws.{held-length}
 use Rattle.model.proofs.FloorLaws.{axiom-sub-class, axiom-equivalent}
-use Rattle.model.proofs.WalkLaws.{walk-fixed}
+use Rattle.model.proofs.WalkLaws.{walk-fixed, walk-placed}
 use Rattle.model.proofs.BuildLaws.{fits-in, built-same, built-is, built-start, built-tripped, built-count, built-quiet, built-trans}
 
 either : {A : Type 0} (b : Bool) {x y z : A} → x ≡ z → y ≡ z → cond b x y ≡ z
@@ -72,6 +72,10 @@ module _ (D : Deck) (floor : List ℕ) (B : Bounds) (e : ℕ) (m : Model) (Q : M
   axiom-case (Axiom.DeclareObjectProperty r) = same
   axiom-case (Axiom.DeclareNamedIndividual i) = same
 
+pub visit-in-order : (D : Deck) (floor : List ℕ) (B : Bounds) (e : ℕ) (m : Model) → visit D floor B e m ≡ walk (fireAxiom D floor B e) (D .axioms) m
+unfolding visit
+visit-in-order D floor B e m = walk-placed (Axiom.DeclareClass 0) (fireAxiom D floor B e) (D .axioms) m
+
 -- ---- after a trip
 module _ (D : Deck) (floor : List ℕ) (B : Bounds) (e : ℕ) (m : Model) (w : m .state .tripped ≡ true) where
   fire-stuck : (ante sup : ℕ) → fire D floor B e ante sup m ≡ m
@@ -90,8 +94,7 @@ module _ (D : Deck) (floor : List ℕ) (B : Bounds) (e : ℕ) (m : Model) (w : m
   axiom-stuck = axiom-case D floor B e m (λ k. k ≡ m) refl fire-stuck (λ l. walk-fixed (fireFrom D floor B e l) l m (from-stuck l))
 
   pub visit-stuck : visit D floor B e m ≡ m
-  unfolding visit
-  visit-stuck = walk-fixed (fireAxiom D floor B e) (D .axioms) m axiom-stuck
+  visit-stuck = visit-in-order D floor B e m ∙ walk-fixed (fireAxiom D floor B e) (D .axioms) m axiom-stuck
 
 -- ---- the labels' buffer keeps its length
 pub labels-size : {s : List ℕ} {B : Bounds} {b : Buffers} {t : Tally} {floor label : List ℕ} → Prepared s B b t floor label → {b′ : Buffers} {l : List ℕ} {r : Step} {m : Model} → Built (deckOf s) B b t b′ l r m → length (b′ .labels) ≡ length (b .labels)

@@ -1,9 +1,12 @@
 -- Laws of `walk`, and one record for every loop that walks a list of steps: On.
 use mathlib.Core.Bool.{true, false}
-use Prim.Native.Nat.{ℕ, _+_, _<_, _≤_}
+use Prim.Native.Nat.{ℕ, suc, _+_, _<_, _≤_}
+use native.Mathlib.Nat.{add-zero, zero-add}
+use native.Mathlib.Omega.{arith}
 use mathlib.Core.Path.{_≡_, refl, sym, ap, _∙_, subst}
 use mathlib.Core.List.{List, [], _∷_, _++_, map, flatMap, List·Memᴰ as Member, List·Memᴰ·head as here, List·Memᴰ·tail as there}
 use lib.ListN.{length, getD, drop, drop-of-length-le}
+use Rattle.eval.specs.Lists.{range}
 use Rattle.eval.proofs.Walks.{list-step}
 use Rattle.model.specs.declared.tally.Tally.{Tally}
 use Rattle.model.specs.declared.tally.Step.{Step}
@@ -45,6 +48,19 @@ pub walk-same : {A S : Type 0} (f g : A → S → S) (xs : List A) → ((x : A) 
 unfolding walk
 walk-same f g [] h s = refl
 walk-same f g (x ∷ xs) h s = rw (h x (here refl)) (walk-same f g xs (λ y i. h y (there i)) (g x s))
+
+-- a list taken place by place is the list taken one by one
+walk-from : {A S : Type 0} (d : A) (f : A → S → S) (at : ℕ → A) (k : ℕ) (l : List A) → ((i : ℕ) → i < length l → at (k + i) ≡ getD l i d) → (s : S) → walk (λ i. f (at i)) (range k (length l)) s ≡ walk f l s
+unfolding walk range
+walk-from d f at k [] h s = refl
+walk-from {A} d f at k (x ∷ xs) h s =
+    let first : at k ≡ x = ap at (sym (add-zero k)) ∙ h 0 (omega arith) in
+    let next : (i : ℕ) → suc k + i ≡ k + suc i = λ i. omega arith in
+    ap (λ (y : A). walk (λ i. f (at i)) (range (suc k) (length xs)) (f y s)) first
+    ∙ walk-from d f at (suc k) xs (λ i l. ap at (next i) ∙ h (suc i) (omega (arith, l))) (f x s)
+
+pub walk-placed : {A S : Type 0} (d : A) (f : A → S → S) (l : List A) (s : S) → walk (λ i. f (getD l i d)) (range 0 (length l)) s ≡ walk f l s
+walk-placed d f l s = walk-from d f (λ i. getD l i d) 0 l (λ i h. ap (λ (k : ℕ). getD l k d) (zero-add i)) s
 
 -- a walk as a loop takes it: what is still to come is `drop i l`
 module _ {A S : Type 0} (d : A) (f : A → S → S) (l : List A) (i : ℕ) (s : S) where

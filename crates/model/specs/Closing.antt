@@ -4,9 +4,10 @@ use mathlib.Core.Bool.{false, cond, _||_}
 use mathlib.Core.List.{List, List·Memᴰ as Member}
 use lib.ListN.{length}
 use lib.Dec.{eqb}
-use Rattle.deck.specs.Deck.{Deck, Axiom}
+use Rattle.deck.specs.Deck.{Deck, Axiom, axiomCount, axiomAt}
 use Rattle.deck.specs.Content.{IsAccepted, deckOf}
 use Rattle.eval.specs.declared.edges.Edge.{Edge}
+use Rattle.eval.specs.Lists.{range}
 use Rattle.eval.specs.Structure.{Structure, Pair, hasEdge, successors, pairs}
 use Rattle.eval.specs.Edges.{edgesOf, edgeIn}
 use Rattle.eval.specs.Lent.{EdgeFits}
@@ -42,9 +43,9 @@ module _ (D : Deck) (n limit : ℕ) where
   unfoldable pub closeAxiom : Axiom → State → State
   closeAxiom x s = closeBy (ruleOf x) s
 
-  -- "takes its rules in axiom order"
+  -- "takes its rules in axiom order": axiom by axiom, each by its place
   unfoldable pub closePass : State → State
-  closePass s = walk closeAxiom (D .axioms) s
+  closePass s = walk (λ i. closeAxiom (axiomAt D i)) (range 0 (axiomCount D)) s
 
   -- "until a pass adds nothing", or trips; at most `turns` passes
   unfoldable pub closing : ℕ → State → State

@@ -4,7 +4,7 @@ use mathlib.Core.Bool.{cond}
 use mathlib.Core.List.{List, []}
 use lib.ListN.{length, getD, replicate}
 use lib.Dec.{eqb}
-use Rattle.deck.specs.Deck.{Deck, Fact, classCount}
+use Rattle.deck.specs.Deck.{Deck, Fact, classCount, factCount, factAt}
 use Rattle.eval.specs.Lists.{range}
 use Rattle.model.specs.declared.bounds.Bounds.{Bounds}
 use Rattle.model.specs.declared.target_label.Target.{Target}
@@ -36,9 +36,9 @@ module _ (D : Deck) (floor : List ℕ) (B : Bounds) where
   unfoldable pub factStep : ℕ → ℕ → Fact → Model → Model
   factStep e k f m = cond (eqb (f .from) k) (workFact e f m) m
 
-  -- "the facts of each keep deck order"
+  -- "the facts of each keep deck order": fact by fact, each by its place
   unfoldable pub workFacts : ℕ → ℕ → Model → Model
-  workFacts e k m = walk (factStep e k) (D .facts) m
+  workFacts e k m = walk (λ i. factStep e k (factAt D i)) (range 0 (factCount D)) m
 
   -- class k, where the label of e has it
   unfoldable pub classStep : ℕ → ℕ → Model → Model

@@ -4,7 +4,7 @@ use mathlib.Core.Bool.{Bool, true, false, cond, _||_, _&&_}
 use mathlib.Core.List.{List, [], _∷_, map}
 use lib.ListN.{length, getD}
 use lib.Dec.{eqb}
-use Rattle.deck.specs.Deck.{Deck, Axiom}
+use Rattle.deck.specs.Deck.{Deck, Axiom, axiomCount, axiomAt}
 use Rattle.eval.specs.Lists.{every, range}
 use Rattle.model.specs.declared.bounds.Bounds.{Bounds}
 use Rattle.model.specs.Walk.{walk}
@@ -72,9 +72,9 @@ module _ (D : Deck) (floor : List ℕ) (B : Bounds) where
   fireAxiom e (Axiom.DeclareObjectProperty r) m = m
   fireAxiom e (Axiom.DeclareNamedIndividual i) m = m
 
-  -- "each with all rules", "in axiom order"
+  -- "each with all rules", "in axiom order": axiom by axiom, each by its place
   unfoldable pub visit : ℕ → Model → Model
-  visit e m = walk (fireAxiom e) (D .axioms) m
+  visit e m = walk (λ i. fireAxiom e (axiomAt D i)) (range 0 (axiomCount D)) m
 
   -- "Each round visits the elements present when it began"
   unfoldable pub round : Model → Model

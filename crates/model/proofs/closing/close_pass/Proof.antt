@@ -11,7 +11,7 @@ use Rattle.eval.proofs.Walks.{list-step}
 use Rattle.model.specs.Closing.{closeAxiom, closePass, Ready}
 use Rattle.model.proofs.PushLaws.{left-is}
 use Rattle.model.proofs.RuleLaws.{rule-fits-at}
-use Rattle.model.proofs.CloseLaws.{axiom-stuck, axiom-same, axiom-fits, ready-next}
+use Rattle.model.proofs.CloseLaws.{pass-in-order, axiom-stuck, axiom-same, axiom-fits, ready-next}
 use Rattle.model.proofs.WalkLaws.{OnEdges, on-start, on-done, on-stop, on-next}
 use Rattle.model.proofs.closing.close_pass.Statement.{statement}
 use Rattle.model.proofs.closing.close_pass.Tie as tie
@@ -42,10 +42,9 @@ same-length-2 : tie.Need-same-length-2 Inv-loop μ-loop
 same-length-2 c = c .before .before .before .before .close-axiom .ensures .log-size ∙ c .before .before .before .before .before .before .before .before .loop .inv .1 .0 .built .log-size
 
 returns : tie.Need-returns Inv-loop μ-loop
-unfolding closePass
 returns c =
     let G = c .before .before .before .before .before .before .before .before .loop .inv .1 .0 in
-    on-stop G (list-step (Axiom.DeclareClass 0) (deckOf (now (c .before .before .before .before .before .before .before .before .before .before .before .before .args .deck)) .axioms) (c .before .before .before .before .before .before .before .before .loop .i) (omega (arith, c .before .before .before .before .before .before .before .before .before .axiom-count .ensures .is))) (left-is (c .before .before .before .before .close-axiom .ensures) (axiom-same _ _ (G .built .elements) _ _)) (λ x u e. axiom-stuck _ _ _ x u e) (c .if1 .taken)
+    rw pass-in-order (on-stop G (list-step (Axiom.DeclareClass 0) (deckOf (now (c .before .before .before .before .before .before .before .before .before .before .before .before .args .deck)) .axioms) (c .before .before .before .before .before .before .before .before .loop .i) (omega (arith, c .before .before .before .before .before .before .before .before .before .axiom-count .ensures .is))) (left-is (c .before .before .before .before .close-axiom .ensures) (axiom-same _ _ (G .built .elements) _ _)) (λ x u e. axiom-stuck _ _ _ x u e) (c .if1 .taken))
 
 add-i : tie.Need-add-i Inv-loop μ-loop
 add-i c = omega (arith, c .before .before .before .before .before .before .before .before .before .before .axiom-count .ensures .most)
@@ -71,8 +70,7 @@ same-length-4 : tie.Need-same-length-4 Inv-loop μ-loop
 same-length-4 c = c .before .before .loop .inv .1 .0 .built .log-size
 
 returns-2 : tie.Need-returns-2 Inv-loop μ-loop
-unfolding closePass
-returns-2 c = rw (c .quiet .ensures) (on-done (c .before .before .loop .inv .1 .0) (drop-of-length-le (deckOf (now (c .before .before .before .before .before .before .args .deck)) .axioms) {i = c .before .before .loop .i} (omega (arith, c .before .before .before .axiom-count .ensures .is))))
+returns-2 c = rw (c .quiet .ensures, pass-in-order) (on-done (c .before .before .loop .inv .1 .0) (drop-of-length-le (deckOf (now (c .before .before .before .before .before .before .args .deck)) .axioms) {i = c .before .before .loop .i} (omega (arith, c .before .before .before .axiom-count .ensures .is))))
 
 pub close-pass-spec : {M : Type 1} → statement M
 close-pass-spec =

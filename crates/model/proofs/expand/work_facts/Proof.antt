@@ -10,7 +10,7 @@ use Rattle.model.specs.Model.{lent, Prepared}
 use Rattle.model.specs.Expand.{factStep, workFacts}
 use Rattle.model.proofs.SeedLaws.{noFact}
 use Rattle.model.proofs.BuildLaws.{built-size, prepared-after, OnModel, model-start, model-done, model-stop, model-next}
-use Rattle.model.proofs.ExpandLaws.{fact-stuck}
+use Rattle.model.proofs.ExpandLaws.{fact-stuck, facts-in-order}
 use Rattle.model.proofs.expand.work_facts.Statement.{statement}
 use Rattle.model.proofs.expand.work_facts.Tie as tie
 use Rattle.model.proofs.expand.work_facts.Reads as reads
@@ -47,8 +47,7 @@ same-length-4 : tie.Need-same-length-4 Inv-loop μ-loop
 same-length-4 c = c .before .before .before .before .before .before .before .before .fact-step .ensures .left .log-size ∙ c .before .before .before .before .before .before .before .before .before .before .before .before .before .before .loop .inv .1 .0 .built .left .log-size
 
 returns : tie.Need-returns Inv-loop μ-loop
-unfolding workFacts
-returns c = model-stop (c .before .before .before .before .before .before .before .before .before .before .before .before .before .before .loop .inv .1 .0) (list-step noFact (deckOf (now (c .before .before .before .before .before .before .before .before .before .before .before .before .before .before .before .before .before .before .before .before .before .args .deck)) .facts) (c .before .before .before .before .before .before .before .before .before .before .before .before .before .before .loop .i) (omega (arith, c .before .before .before .before .before .before .before .before .before .before .before .before .before .before .before .fact-count .ensures .is))) (c .before .before .before .before .before .before .before .before .fact-step .ensures) (λ f u w. fact-stuck _ _ _ _ _ f u w) (c .if1 .taken)
+returns c = rw facts-in-order (model-stop (c .before .before .before .before .before .before .before .before .before .before .before .before .before .before .loop .inv .1 .0) (list-step noFact (deckOf (now (c .before .before .before .before .before .before .before .before .before .before .before .before .before .before .before .before .before .before .before .before .before .args .deck)) .facts) (c .before .before .before .before .before .before .before .before .before .before .before .before .before .before .loop .i) (omega (arith, c .before .before .before .before .before .before .before .before .before .before .before .before .before .before .before .fact-count .ensures .is))) (c .before .before .before .before .before .before .before .before .fact-step .ensures) (λ f u w. fact-stuck _ _ _ _ _ f u w) (c .if1 .taken))
 
 add-i : tie.Need-add-i Inv-loop μ-loop
 add-i c = omega (arith, c .before .before .before .before .before .before .before .before .before .before .before .before .before .before .before .before .fact-count .ensures .most)
@@ -75,8 +74,7 @@ same-length-8 : tie.Need-same-length-8 Inv-loop μ-loop
 same-length-8 c = c .before .before .loop .inv .1 .0 .built .left .log-size
 
 returns-2 : tie.Need-returns-2 Inv-loop μ-loop
-unfolding workFacts
-returns-2 c = rw (c .quiet .ensures) (model-done (c .before .before .loop .inv .1 .0) (drop-of-length-le (deckOf (now (c .before .before .before .before .before .before .before .before .before .args .deck)) .facts) {i = c .before .before .loop .i} (omega (arith, c .before .before .before .fact-count .ensures .is))))
+returns-2 c = rw (c .quiet .ensures, facts-in-order) (model-done (c .before .before .loop .inv .1 .0) (drop-of-length-le (deckOf (now (c .before .before .before .before .before .before .before .before .before .args .deck)) .facts) {i = c .before .before .loop .i} (omega (arith, c .before .before .before .fact-count .ensures .is))))
 
 pub work-facts-spec : {M : Type 1} → statement M
 work-facts-spec =

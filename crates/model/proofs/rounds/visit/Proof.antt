@@ -7,7 +7,7 @@ use lib.ListN.{drop, drop-of-length-le}
 use Rattle.deck.specs.Content.{deckOf}
 use Rattle.model.specs.Model.{lent}
 use Rattle.model.proofs.BuildLaws.{built-trans, prepared-after, OnModel, model-start, model-done, model-stop, model-next}
-use Rattle.model.proofs.RoundLaws.{labels-size, axiom-stuck}
+use Rattle.model.proofs.RoundLaws.{labels-size, axiom-stuck, visit-in-order}
 use Rattle.deck.specs.Deck.{Axiom}
 use Rattle.eval.proofs.Walks.{list-step}
 use Rattle.model.specs.Rounds.{fireAxiom, visit}
@@ -45,10 +45,9 @@ same-length-4 : tie.Need-same-length-4 Inv-loop μ-loop
 same-length-4 c = c .before .before .before .before .before .before .before .before .fire-axiom .ensures .left .log-size ∙ c .before .before .before .before .before .before .before .before .before .before .before .before .before .before .loop .inv .1 .built .left .log-size
 
 returns : tie.Need-returns Inv-loop μ-loop
-unfolding visit
 returns c =
     let turn = c .before .before .before .before .before .before .before .before .before .before .before .before .before .before .loop in
-    model-stop (turn .inv .1) (list-step (Axiom.DeclareClass 0) (deckOf (now (c .before .before .before .before .before .before .before .before .before .before .before .before .before .before .before .before .before .before .before .before .before .args .deck)) .axioms) (turn .i) (omega (arith, c .before .before .before .before .before .before .before .before .before .before .before .before .before .before .before .axiom-count .ensures .is))) (c .before .before .before .before .before .before .before .before .fire-axiom .ensures) (λ x u w. axiom-stuck _ _ _ _ u w x) (c .if1 .taken)
+    rw visit-in-order (model-stop (turn .inv .1) (list-step (Axiom.DeclareClass 0) (deckOf (now (c .before .before .before .before .before .before .before .before .before .before .before .before .before .before .before .before .before .before .before .before .before .args .deck)) .axioms) (turn .i) (omega (arith, c .before .before .before .before .before .before .before .before .before .before .before .before .before .before .before .axiom-count .ensures .is))) (c .before .before .before .before .before .before .before .before .fire-axiom .ensures) (λ x u w. axiom-stuck _ _ _ _ u w x) (c .if1 .taken))
 
 add-i : tie.Need-add-i Inv-loop μ-loop
 add-i c = omega (arith, c .before .before .before .before .before .before .before .before .before .before .before .before .before .before .before .before .axiom-count .ensures .most)
@@ -77,8 +76,7 @@ same-length-8 : tie.Need-same-length-8 Inv-loop μ-loop
 same-length-8 c = c .before .before .loop .inv .1 .built .left .log-size
 
 returns-2 : tie.Need-returns-2 Inv-loop μ-loop
-unfolding visit
-returns-2 c = rw (c .quiet .ensures) (
+returns-2 c = rw (c .quiet .ensures, visit-in-order) (
     let turn = c .before .before .loop in
     model-done (turn .inv .1) (drop-of-length-le (deckOf (now (c .before .before .before .before .before .before .before .before .before .args .deck)) .axioms) {i = turn .i} (omega (arith, c .before .before .before .axiom-count .ensures .is))))
 
