@@ -1,6 +1,6 @@
 // Standard input and standard output. A call that was interrupted, or that would have to wait, is made again.
 ghost use mathlib.Core.Path.{_≡_};
-ghost use Prim.Native.Nat.{_≤_};
+ghost use Prim.Native.Nat.{_<_, _≤_};
 ghost use lib.ListN.{length, take};
 ghost use Rattle.report.specs.Text.{programText};
 use libc::EAGAIN;
@@ -72,8 +72,10 @@ fn read_count(room: &mut [u8]) -> usize
 }
 
 // Reads until the room is full or the input ends, and answers the part of the room that was read; an empty one where a
-// read fails.
-pub fn read_input(room: &mut [u8]) -> &mut [u8] {
+// read fails. The room takes a byte more than the longest deck, so that a longer input is seen to be one.
+pub fn read_input(room: &mut [u8]) -> &mut [u8]
+    requires { ⌜ 65536 < length (now room) ⌝ }
+{
     let n = read_count(room);
     &mut room[..n]
 }
