@@ -1,6 +1,6 @@
 -- The structure that lent buffers hold: its edges fit, and a walk over the list of edges meets the successors of an element.
 use Prim.Native.Nat.{ℕ, _/_, _<_}
-use mathlib.Core.Bool.{Bool, true, false, cond}
+use mathlib.Core.Bool.{Bool, true}
 use mathlib.Core.Path.{_≡_, refl, sym, ap, _∙_}
 use mathlib.Core.List.{List, [], List·Memᴰ as Member}
 use native.Mathlib.Omega.{arith}
@@ -8,28 +8,22 @@ use borrow.Author.Tests.{eqb-true, eq-eqb}
 use lib.Dec.{eqb}
 use lib.ListN.{getD}
 use Rattle.deck.specs.Deck.{Deck, Role, roleOf, roleId}
-use Rattle.deck.specs.Numbers.{inverseWord}
-use Rattle.deck.specs.declared.concepts.ConceptExpr.{ConceptExpr}
-use Rattle.deck.specs.Reads.{ConceptRead, exprOf, ExprFits}
 use Rattle.deck.specs.Content.{deckOf}
 use Rattle.deck.proofs.BelowLaws.{and-left, and-right}
 use Rattle.deck.proofs.SoundLaws.{sound}
 use Rattle.deck.proofs.TagLaws.{role-id}
 use Rattle.eval.specs.declared.edges.Edge.{Edge}
 use Rattle.eval.specs.declared.shape.Shape.{Shape}
-use Rattle.eval.specs.declared.judgement.Judgement.the-variants.{Unresolved}
 use Rattle.eval.specs.Standing.{fresh}
 use Rattle.eval.specs.Structure.{Structure, elements, hasEdge, hasPair, successorsOf, inverse}
 use Rattle.eval.specs.Edges.{edgeOf, edgesOf, edgesBy, turned, under, leaves, goes, linked}
-use Rattle.eval.specs.Judge.{judge, judgeOf, someFrom}
+use Rattle.eval.specs.Judge.{judge, someFrom}
 use Rattle.eval.specs.Lent.{Fits, EdgeFits, structureOf}
 use Rattle.eval.proofs.ListLaws.{member-at, position, keep-in, in-keep, any-at, any-of}
 use Rattle.eval.proofs.EdgeLaws as edge-laws
 use Rattle.eval.proofs.EdgeWalks.{noEdge, edges-length, edges-at, by-at}
 use Rattle.eval.proofs.Hits.{hits, hit-in, in-hits}
 use Rattle.eval.proofs.LinkLaws.{both, has-edge-is}
-use Rattle.eval.proofs.RoleLaws.{inverse-word}
-use Rattle.eval.proofs.Steps.{judge-is}
 use Rattle.eval.proofs.Tags.{some-any}
 
 -- does an edge leave x by a role word, and where does it lead?
@@ -123,12 +117,6 @@ module _ (s labels : List ℕ) (rows : List (List ℕ)) (shape : Shape) (F : Fit
 
   -- edge i of the list, read as a role word sees it
   module _ (w i : ℕ) (h : i < shape .edges) {edge : Edge} (is : edge ≡ turned (roleOf w) (edgeOf (getD rows i []))) where
-    pub edge-led : edge .to .0 ≡ targetBy (roleOf w) (getD es i noEdge)
-    edge-led = rw (edges-at rows (shape .edges) i h (F .count), is)
-
-    pub edge-leaves : (x : ℕ) {q : ℕ} {b : Bool} → q ≡ w / 2 → b ≡ leaves D q x edge → leavesBy D (roleOf w) x (getD es i noEdge) ≡ b
-    edge-leaves x {q} {b} of p = rw (edges-at rows (shape .edges) i h (F .count), role-id w) (sym (rw (of, is) at p))
-
     pub edge-under : {q : ℕ} {b : Bool} → q ≡ w / 2 → b ≡ under D q edge → under D (roleId (roleOf w)) (getD (edgesBy (roleOf w) es) i (turned (roleOf w) noEdge)) ≡ b
     edge-under {q} {b} of p = rw (by-at (roleOf w) rows (shape .edges) (F .count) i h, role-id w) (sym (rw (of, is) at p))
 
@@ -136,22 +124,3 @@ module _ (s labels : List ℕ) (rows : List (List ℕ)) (shape : Shape) (F : Fit
     edge-by-fits =
         let l = edges-length rows (shape .edges) (F .count) in
         rw (is ∙ ap (turned (roleOf w)) (sym (edges-at rows (shape .edges) i h (F .count)))) (turned-fits (roleOf w) (getD es i noEdge) (member-at noEdge es i (omega (arith, l))))
-
-  -- ---- a concept that was read
-  module _ (c e : ℕ) {expr : ConceptExpr} (R : ConceptRead s c expr) where
-    pub judge-read : (v : ConceptExpr) → expr ≡ v → judgeOf D S (exprOf s v) (judge D S) e ≡ judge D S c e
-    judge-read v p = judge-is D (sound s (F .accepted)) S c e (exprOf s v) (sym (R .is) ∙ ap (exprOf s) p)
-
-    pub fits-read : (v : ConceptExpr) → expr ≡ v → ExprFits s c v
-    fits-read v p = rw p at (R .fits)
-
-    module _ (w b : ℕ) (p : expr ≡ ConceptExpr.Some (record { 0 = w }) (record { 0 = b })) where
-      some-is : cond (inverse (roleOf w)) (Unresolved 8) (someFrom (judge D S b) fresh (successorsOf D S (roleOf w) e)) ≡ judge D S c e
-      unfolding judgeOf
-      some-is = judge-read _ p
-
-      pub some-named : inverseWord w ≡ false → someFrom (judge D S b) fresh (successorsOf D S (roleOf w) e) ≡ judge D S c e
-      some-named q = rw (inverse-word w ∙ q) at some-is
-
-      pub some-inverse : inverseWord w ≡ true → Unresolved 8 ≡ judge D S c e
-      some-inverse q = rw (inverse-word w ∙ q) at some-is

@@ -23,9 +23,12 @@ pub mod Agreeing
 pub mod EdgeWalks
 pub mod LinkLaws
 pub mod LentLaws
+pub mod MemoLaws
 pub mod SeenLaws
+pub mod IndexLaws
 pub mod PairLaws
 pub mod RoleLaws
+pub mod LeafLaws
 pub mod JustifiedLaws
 pub mod AxiomLaws
 pub mod ForeignLaws

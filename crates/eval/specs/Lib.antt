@@ -8,7 +8,11 @@ pub mod Truth
 pub mod Standard
 pub mod Edges
 pub mod Lent
+pub mod Memo
+pub mod Leaf
 pub mod Lowest
+pub mod Index
+pub mod Equipped
 pub mod Demand
 pub mod Justified
 pub mod Foreign

@@ -4,7 +4,8 @@ ghost use Prim.Native.Nat.{_<_};
 ghost use Rattle.deck.specs.Content.{deckOf};
 ghost use Rattle.deck.specs.Deck.{axiomCount, axiomAt};
 ghost use Rattle.eval.specs.Justified.{Justified};
-ghost use Rattle.eval.specs.Lent.{Fits, structureOf};
+ghost use Rattle.eval.specs.Equipped.{Equipped};
+ghost use Rattle.eval.specs.Lent.{structureOf};
 ghost use Rattle.eval.specs.Verdict.{verdict};
 use crate::classes::check_disjoint_classes;
 use crate::classes::check_equivalent_classes;
@@ -30,12 +31,15 @@ pub fn check_axiom(
     labels: &[u64],
     edges: &[[u32; 3]],
     shape: Shape,
+    index: &[u32],
+    memo: &mut [u16],
     axiom: u32,
 ) -> Verdict
-    requires { ⌜ Fits (now deck) (now labels) (now edges) shape ⌝ }
+    requires { ⌜ Equipped (now deck) (now labels) (now edges) shape (now index) (now memo) ⌝ }
     requires { ⌜ «axiom» < axiomCount (deckOf (now deck)) ⌝ }
     ensures is { λ v. ⌜ v ≡ verdict (deckOf (now (deck .entry))) (structureOf (deckOf (now (deck .entry))) (now (labels .entry)) (now (edges .entry)) shape) (axiomAt (deckOf (now (deck .entry))) «axiom») ⌝ }
     ensures justified { λ v. ⌜ Justified (deckOf (now (deck .entry))) (structureOf (deckOf (now (deck .entry))) (now (labels .entry)) (now (edges .entry)) shape) (axiomAt (deckOf (now (deck .entry))) «axiom») v ⌝ }
+    ensures kept { λ _. ⌜ Equipped (now (deck .entry)) (now (labels .entry)) (now (edges .entry)) shape (now (index .entry)) (now (memo .exit)) ⌝ }
 {
     let record = axiom_at(deck, axiom);
     let tag = record.tag;
@@ -43,25 +47,86 @@ pub fn check_axiom(
     let y = record.second;
     let z = record.third;
     match tag {
-        0 => check_sub_class_of(deck, labels, edges, shape, ConceptId(x), ConceptId(y)),
-        1 => check_equivalent_classes(deck, labels, edges, shape, Span { start: x, count: y }),
-        2 => check_disjoint_classes(deck, labels, edges, shape, Span { start: x, count: y }),
+        0 => check_sub_class_of(
+            deck,
+            labels,
+            edges,
+            shape,
+            index,
+            memo,
+            ConceptId(x),
+            ConceptId(y),
+        ),
+        1 => check_equivalent_classes(
+            deck,
+            labels,
+            edges,
+            shape,
+            index,
+            memo,
+            Span { start: x, count: y },
+        ),
+        2 => check_disjoint_classes(
+            deck,
+            labels,
+            edges,
+            shape,
+            index,
+            memo,
+            Span { start: x, count: y },
+        ),
         3 => Verdict::UnhandledAxiom(3, 0),
-        4 => check_sub_property(deck, labels, edges, shape, RoleWord(x), RoleWord(y)),
+        4 => check_sub_property(
+            deck,
+            labels,
+            edges,
+            shape,
+            index,
+            memo,
+            RoleWord(x),
+            RoleWord(y),
+        ),
         5 => check_chain(
             deck,
             labels,
             edges,
             shape,
+            index,
             Span { start: x, count: y },
             RoleWord(z),
         ),
-        6 => check_equivalent_properties(deck, labels, edges, shape, Span { start: x, count: y }),
+        6 => check_equivalent_properties(
+            deck,
+            labels,
+            edges,
+            shape,
+            index,
+            memo,
+            Span { start: x, count: y },
+        ),
         7 => Verdict::UnhandledAxiom(7, 0),
         8 => check_inverse_properties(deck, labels, edges, shape, RoleWord(x), RoleWord(y)),
-        9 => check_domain(deck, labels, edges, shape, RoleWord(x), ConceptId(y)),
-        10 => check_range(deck, labels, edges, shape, RoleWord(x), ConceptId(y)),
-        11 => check_transitive(deck, labels, edges, shape, RoleWord(x)),
+        9 => check_domain(
+            deck,
+            labels,
+            edges,
+            shape,
+            index,
+            memo,
+            RoleWord(x),
+            ConceptId(y),
+        ),
+        10 => check_range(
+            deck,
+            labels,
+            edges,
+            shape,
+            index,
+            memo,
+            RoleWord(x),
+            ConceptId(y),
+        ),
+        11 => check_transitive(deck, labels, edges, shape, index, RoleWord(x)),
         12 => check_symmetric(deck, labels, edges, shape, RoleWord(x)),
         13..=17 => Verdict::UnhandledAxiom(tag, 0),
         18..=22 => Verdict::UnhandledAxiom(tag, 0),

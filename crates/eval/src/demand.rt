@@ -6,7 +6,8 @@ ghost use Rattle.deck.specs.Deck.{roleCount, roleId, roleOf};
 ghost use Rattle.eval.specs.Demand.{demandAt, blame, DemandFits};
 ghost use Rattle.eval.specs.Edges.{edgesBy, edgesOf, under};
 ghost use Rattle.eval.specs.Lowest.{Among, Seen};
-ghost use Rattle.eval.specs.Lent.{Fits, EdgeFits, structureOf};
+ghost use Rattle.eval.specs.Equipped.{Equipped};
+ghost use Rattle.eval.specs.Lent.{EdgeFits, structureOf};
 ghost use Rattle.eval.specs.Structure.{pair};
 ghost use Rattle.eval.specs.Verdict.{atPairs};
 use crate::concepts::eval_concept;
@@ -37,20 +38,50 @@ fn meets(
     labels: &[u64],
     edges: &[[u32; 3]],
     shape: Shape,
+    index: &[u32],
+    memo: &mut [u16],
     demand: Demand,
     e: Edge,
 ) -> Judgement
-    requires { ⌜ Fits (now deck) (now labels) (now edges) shape ⌝ }
+    requires { ⌜ Equipped (now deck) (now labels) (now edges) shape (now index) (now memo) ⌝ }
     requires { ⌜ DemandFits (deckOf (now deck)) demand ⌝ }
     requires { ⌜ EdgeFits (deckOf (now deck)) (shape .elements) e ⌝ }
-    ensures { λ j. ⌜ j ≡ demandAt (deckOf (now (deck .entry))) (structureOf (deckOf (now (deck .entry))) (now (labels .entry)) (now (edges .entry)) shape) demand (pair (e .from .0) (e .to .0)) ⌝ }
+    ensures is { λ j. ⌜ j ≡ demandAt (deckOf (now (deck .entry))) (structureOf (deckOf (now (deck .entry))) (now (labels .entry)) (now (edges .entry)) shape) demand (pair (e .from .0) (e .to .0)) ⌝ }
+    ensures kept { λ _. ⌜ Equipped (now (deck .entry)) (now (labels .entry)) (now (edges .entry)) shape (now (index .entry)) (now (memo .exit)) ⌝ }
 {
     let from = e.from;
     let to = e.to;
     match demand {
-        Demand::Domain(concept) => eval_concept(deck, labels, edges, shape, concept, from),
-        Demand::Range(concept) => eval_concept(deck, labels, edges, shape, concept, to),
-        Demand::Within(role) => truth_of(has_pair(deck, edges, shape.edges, role, from, to)),
+        Demand::Domain(concept) => eval_concept(
+            deck,
+            labels,
+            edges,
+            shape,
+            index,
+            memo,
+            concept,
+            from,
+        ),
+        Demand::Range(concept) => eval_concept(
+            deck,
+            labels,
+            edges,
+            shape,
+            index,
+            memo,
+            concept,
+            to,
+        ),
+        Demand::Within(role) => truth_of(has_pair(
+            deck,
+            edges,
+            shape.edges,
+            index,
+            shape.elements,
+            role,
+            from,
+            to,
+        )),
     }
 }
 
@@ -71,13 +102,16 @@ fn lowest_failing(
     labels: &[u64],
     edges: &[[u32; 3]],
     shape: Shape,
+    index: &[u32],
+    memo: &mut [u16],
     role: RoleWord,
     demand: Demand,
 ) -> Lowest
-    requires { ⌜ Fits (now deck) (now labels) (now edges) shape ⌝ }
+    requires { ⌜ Equipped (now deck) (now labels) (now edges) shape (now index) (now memo) ⌝ }
     requires { ⌜ role .0 < 2 * roleCount (deckOf (now deck)) ⌝ }
     requires { ⌜ DemandFits (deckOf (now deck)) demand ⌝ }
-    ensures { λ l. ⌜ Seen (Among (under (deckOf (now (deck .entry))) (roleId (roleOf (role .0)))) (edgesBy (roleOf (role .0)) (edgesOf (now (edges .entry)) (shape .edges)))) (λ e. demandAt (deckOf (now (deck .entry))) (structureOf (deckOf (now (deck .entry))) (now (labels .entry)) (now (edges .entry)) shape) demand (pair (e .from .0) (e .to .0))) l ⌝ }
+    ensures is { λ l. ⌜ Seen (Among (under (deckOf (now (deck .entry))) (roleId (roleOf (role .0)))) (edgesBy (roleOf (role .0)) (edgesOf (now (edges .entry)) (shape .edges)))) (λ e. demandAt (deckOf (now (deck .entry))) (structureOf (deckOf (now (deck .entry))) (now (labels .entry)) (now (edges .entry)) shape) demand (pair (e .from .0) (e .to .0))) l ⌝ }
+    ensures kept { λ _. ⌜ Equipped (now (deck .entry)) (now (labels .entry)) (now (edges .entry)) shape (now (index .entry)) (now (memo .exit)) ⌝ }
 {
     let count = shape.edges as usize;
     let r = role.role_id();
@@ -89,7 +123,7 @@ fn lowest_failing(
         if !is_sub_role(deck, e, r) {
             continue;
         }
-        lowest = lowest.next(meets(deck, labels, edges, shape, demand, e), e);
+        lowest = lowest.next(meets(deck, labels, edges, shape, index, memo, demand, e), e);
     }
     lowest
 }
@@ -100,15 +134,18 @@ pub fn check_pairs(
     labels: &[u64],
     edges: &[[u32; 3]],
     shape: Shape,
+    index: &[u32],
+    memo: &mut [u16],
     role: RoleWord,
     demand: Demand,
 ) -> Verdict
-    requires { ⌜ Fits (now deck) (now labels) (now edges) shape ⌝ }
+    requires { ⌜ Equipped (now deck) (now labels) (now edges) shape (now index) (now memo) ⌝ }
     requires { ⌜ role .0 < 2 * roleCount (deckOf (now deck)) ⌝ }
     requires { ⌜ DemandFits (deckOf (now deck)) demand ⌝ }
-    ensures { λ v. ⌜ v ≡ atPairs (deckOf (now (deck .entry))) (structureOf (deckOf (now (deck .entry))) (now (labels .entry)) (now (edges .entry)) shape) (roleOf (role .0)) (demandAt (deckOf (now (deck .entry))) (structureOf (deckOf (now (deck .entry))) (now (labels .entry)) (now (edges .entry)) shape) demand) (blame demand) ⌝ }
+    ensures is { λ v. ⌜ v ≡ atPairs (deckOf (now (deck .entry))) (structureOf (deckOf (now (deck .entry))) (now (labels .entry)) (now (edges .entry)) shape) (roleOf (role .0)) (demandAt (deckOf (now (deck .entry))) (structureOf (deckOf (now (deck .entry))) (now (labels .entry)) (now (edges .entry)) shape) demand) (blame demand) ⌝ }
+    ensures kept { λ _. ⌜ Equipped (now (deck .entry)) (now (labels .entry)) (now (edges .entry)) shape (now (index .entry)) (now (memo .exit)) ⌝ }
 {
-    let lowest = lowest_failing(deck, labels, edges, shape, role, demand);
+    let lowest = lowest_failing(deck, labels, edges, shape, index, memo, role, demand);
     let found = lowest.found;
     let noted = lowest.noted;
     if found {

@@ -6,6 +6,9 @@ ghost use lib.ListN.{length, getD};
 ghost use Rattle.deck.specs.Content.{IsAccepted, deckOf};
 ghost use Rattle.deck.specs.Deck.{roleCount, roleOf};
 ghost use Rattle.eval.specs.Edges.{edgeOf, edgesOf, goes, leaves, linked, linkedBy, turned, under};
+ghost use Rattle.eval.specs.Index.{Indexed};
+use crate::index::jump;
+use crate::index::walk_of;
 use deck::numbers::Element;
 use deck::numbers::RoleId;
 use deck::numbers::RoleWord;
@@ -89,6 +92,8 @@ pub fn has_pair(
     deck: &[u8],
     edges: &[[u32; 3]],
     count: u32,
+    index: &[u32],
+    elements: u32,
     word: RoleWord,
     x: Element,
     y: Element,
@@ -96,13 +101,16 @@ pub fn has_pair(
     requires { ⌜ IsAccepted (now deck) ⌝ }
     requires { ⌜ word .0 < 2 * roleCount (deckOf (now deck)) ⌝ }
     requires { ⌜ count ≤ length (now edges) ⌝ }
+    requires { ⌜ Indexed (now edges) elements count (now index) ⌝ }
+    requires { ⌜ x .0 < elements ⌝ }
+    requires { ⌜ y .0 < elements ⌝ }
     ensures { λ b. ⌜ b ≡ linkedBy (deckOf (now (deck .entry))) (edgesOf (now (edges .entry)) count) (roleOf (word .0)) (x .0) (y .0) ⌝ }
 {
     let r = word.role_id();
     if word.is_inverse() {
-        return has_edge(deck, edges, count, r, y, x);
+        return has_edge(deck, edges, count, index, elements, r, y, x);
     }
-    has_edge(deck, edges, count, r, x, y)
+    has_edge(deck, edges, count, index, elements, r, x, y)
 }
 
 // Does an edge of r go from x to y, among the first `count`?
@@ -110,6 +118,8 @@ pub fn has_edge(
     deck: &[u8],
     edges: &[[u32; 3]],
     count: u32,
+    index: &[u32],
+    elements: u32,
     r: RoleId,
     x: Element,
     y: Element,
@@ -117,14 +127,21 @@ pub fn has_edge(
     requires { ⌜ IsAccepted (now deck) ⌝ }
     requires { ⌜ r .0 < roleCount (deckOf (now deck)) ⌝ }
     requires { ⌜ count ≤ length (now edges) ⌝ }
+    requires { ⌜ Indexed (now edges) elements count (now index) ⌝ }
+    requires { ⌜ x .0 < elements ⌝ }
     ensures { λ b. ⌜ b ≡ linked (deckOf (now (deck .entry))) (edgesOf (now (edges .entry)) count) (r .0) (x .0) (y .0) ⌝ }
 {
-    let mut i = 0;
-    while i < count as usize {
-        if goes_by(deck, edge_at(edges, i), r, x, y) {
+    let mut w = walk_of(index, x);
+    while w.at < count as usize {
+        let e = edge_at(edges, w.at);
+        if e.from.0 != x.0 {
+            w = jump(edges, count, index, elements, x, w);
+            continue;
+        }
+        if goes_by(deck, e, r, x, y) {
             return true;
         }
-        i += 1;
+        w.at += 1;
     }
     false
 }

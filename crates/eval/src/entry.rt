@@ -12,8 +12,8 @@ ghost use Rattle.eval.specs.Judge.{Right, truth};
 ghost use Rattle.eval.specs.Justified.{Justified};
 ghost use Rattle.eval.specs.Lent.{structureOf};
 ghost use Rattle.eval.specs.Truth.{Choice, ext, plain};
-use crate::axioms::check_axiom;
-use crate::concepts::eval_concept;
+use crate::equip::judge_axiom;
+use crate::equip::judge_concept;
 use crate::foreign::structure_fits;
 use crate::judgement::Judgement;
 use crate::shape::Shape;
@@ -78,7 +78,7 @@ pub fn eval_concept_in(
     if element.0 >= elements {
         return ConceptAnswer::Refused(Refusal::AbsentIndex);
     }
-    ConceptAnswer::Judged(eval_concept(deck, labels, edges, shape, concept, element))
+    ConceptAnswer::Judged(judge_concept(deck, labels, edges, shape, concept, element))
 }
 
 // Is the axiom satisfied in that structure?
@@ -104,5 +104,5 @@ pub fn check_axiom_in(
     if axiom >= axiom_count(deck) {
         return AxiomAnswer::Refused(Refusal::AbsentIndex);
     }
-    AxiomAnswer::Checked(check_axiom(deck, labels, edges, shape, axiom))
+    AxiomAnswer::Checked(judge_axiom(deck, labels, edges, shape, axiom))
 }

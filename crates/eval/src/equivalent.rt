@@ -5,7 +5,8 @@ ghost use Prim.Native.Nat.{_*_, _<_};
 ghost use Rattle.deck.specs.Content.{IsAccepted, deckOf};
 ghost use Rattle.deck.specs.Deck.{roleCount, roleOf, Axiom};
 ghost use Rattle.deck.specs.Reads.{listOf, ListFits};
-ghost use Rattle.eval.specs.Lent.{Fits, structureOf};
+ghost use Rattle.eval.specs.Equipped.{Equipped};
+ghost use Rattle.eval.specs.Lent.{structureOf};
 ghost use Rattle.eval.specs.Structure.{anyInverse};
 ghost use Rattle.eval.specs.Verdict.{across, inTurn, verdict, equivalent};
 use crate::demand::Demand;
@@ -41,18 +42,30 @@ fn check_across(
     labels: &[u64],
     edges: &[[u32; 3]],
     shape: Shape,
+    index: &[u32],
+    memo: &mut [u16],
     a: RoleWord,
     b: RoleWord,
 ) -> Verdict
-    requires { ⌜ Fits (now deck) (now labels) (now edges) shape ⌝ }
+    requires { ⌜ Equipped (now deck) (now labels) (now edges) shape (now index) (now memo) ⌝ }
     requires { ⌜ a .0 < 2 * roleCount (deckOf (now deck)) ⌝ }
     requires { ⌜ b .0 < 2 * roleCount (deckOf (now deck)) ⌝ }
-    ensures { λ v. ⌜ v ≡ across (deckOf (now (deck .entry))) (structureOf (deckOf (now (deck .entry))) (now (labels .entry)) (now (edges .entry)) shape) (roleOf (a .0)) (roleOf (b .0)) ⌝ }
+    ensures is { λ v. ⌜ v ≡ across (deckOf (now (deck .entry))) (structureOf (deckOf (now (deck .entry))) (now (labels .entry)) (now (edges .entry)) shape) (roleOf (a .0)) (roleOf (b .0)) ⌝ }
+    ensures kept { λ _. ⌜ Equipped (now (deck .entry)) (now (labels .entry)) (now (edges .entry)) shape (now (index .entry)) (now (memo .exit)) ⌝ }
 {
     if a.role_id().0 == b.role_id().0 {
         return Verdict::Holds;
     }
-    check_pairs(deck, labels, edges, shape, a, Demand::Within(b))
+    check_pairs(
+        deck,
+        labels,
+        edges,
+        shape,
+        index,
+        memo,
+        a,
+        Demand::Within(b),
+    )
 }
 
 // The pairs of a in each member of the list.
@@ -61,19 +74,22 @@ fn check_against(
     labels: &[u64],
     edges: &[[u32; 3]],
     shape: Shape,
+    index: &[u32],
+    memo: &mut [u16],
     a: RoleWord,
     list: Span,
 ) -> Verdict
-    requires { ⌜ Fits (now deck) (now labels) (now edges) shape ⌝ }
+    requires { ⌜ Equipped (now deck) (now labels) (now edges) shape (now index) (now memo) ⌝ }
     requires { ⌜ a .0 < 2 * roleCount (deckOf (now deck)) ⌝ }
     requires { ⌜ ListFits (now deck) (2 * roleCount (deckOf (now deck))) list ⌝ }
-    ensures { λ v. ⌜ v ≡ inTurn (map (across (deckOf (now (deck .entry))) (structureOf (deckOf (now (deck .entry))) (now (labels .entry)) (now (edges .entry)) shape) (roleOf (a .0))) (map roleOf (listOf (now (deck .entry)) list))) ⌝ }
+    ensures is { λ v. ⌜ v ≡ inTurn (map (across (deckOf (now (deck .entry))) (structureOf (deckOf (now (deck .entry))) (now (labels .entry)) (now (edges .entry)) shape) (roleOf (a .0))) (map roleOf (listOf (now (deck .entry)) list))) ⌝ }
+    ensures kept { λ _. ⌜ Equipped (now (deck .entry)) (now (labels .entry)) (now (edges .entry)) shape (now (index .entry)) (now (memo .exit)) ⌝ }
 {
     let count = list.count;
     let mut i = 0;
     while i < count {
         let b = RoleWord(item(deck, list, i));
-        let v = check_across(deck, labels, edges, shape, a, b);
+        let v = check_across(deck, labels, edges, shape, index, memo, a, b);
         if !holds(v) {
             return v;
         }
@@ -88,17 +104,20 @@ fn check_members(
     labels: &[u64],
     edges: &[[u32; 3]],
     shape: Shape,
+    index: &[u32],
+    memo: &mut [u16],
     list: Span,
 ) -> Verdict
-    requires { ⌜ Fits (now deck) (now labels) (now edges) shape ⌝ }
+    requires { ⌜ Equipped (now deck) (now labels) (now edges) shape (now index) (now memo) ⌝ }
     requires { ⌜ ListFits (now deck) (2 * roleCount (deckOf (now deck))) list ⌝ }
-    ensures { λ v. ⌜ v ≡ equivalent (deckOf (now (deck .entry))) (structureOf (deckOf (now (deck .entry))) (now (labels .entry)) (now (edges .entry)) shape) (map roleOf (listOf (now (deck .entry)) list)) ⌝ }
+    ensures is { λ v. ⌜ v ≡ equivalent (deckOf (now (deck .entry))) (structureOf (deckOf (now (deck .entry))) (now (labels .entry)) (now (edges .entry)) shape) (map roleOf (listOf (now (deck .entry)) list)) ⌝ }
+    ensures kept { λ _. ⌜ Equipped (now (deck .entry)) (now (labels .entry)) (now (edges .entry)) shape (now (index .entry)) (now (memo .exit)) ⌝ }
 {
     let count = list.count;
     let mut i = 0;
     while i < count {
         let a = RoleWord(item(deck, list, i));
-        let v = check_against(deck, labels, edges, shape, a, list);
+        let v = check_against(deck, labels, edges, shape, index, memo, a, list);
         if !holds(v) {
             return v;
         }
@@ -113,14 +132,17 @@ pub fn check_equivalent_properties(
     labels: &[u64],
     edges: &[[u32; 3]],
     shape: Shape,
+    index: &[u32],
+    memo: &mut [u16],
     list: Span,
 ) -> Verdict
-    requires { ⌜ Fits (now deck) (now labels) (now edges) shape ⌝ }
+    requires { ⌜ Equipped (now deck) (now labels) (now edges) shape (now index) (now memo) ⌝ }
     requires { ⌜ ListFits (now deck) (2 * roleCount (deckOf (now deck))) list ⌝ }
-    ensures { λ v. ⌜ v ≡ verdict (deckOf (now (deck .entry))) (structureOf (deckOf (now (deck .entry))) (now (labels .entry)) (now (edges .entry)) shape) (Axiom.EquivalentObjectProperties (map roleOf (listOf (now (deck .entry)) list))) ⌝ }
+    ensures is { λ v. ⌜ v ≡ verdict (deckOf (now (deck .entry))) (structureOf (deckOf (now (deck .entry))) (now (labels .entry)) (now (edges .entry)) shape) (Axiom.EquivalentObjectProperties (map roleOf (listOf (now (deck .entry)) list))) ⌝ }
+    ensures kept { λ _. ⌜ Equipped (now (deck .entry)) (now (labels .entry)) (now (edges .entry)) shape (now (index .entry)) (now (memo .exit)) ⌝ }
 {
     if any_inverse(deck, list) {
         return Verdict::UnhandledAxiom(6, 1);
     }
-    check_members(deck, labels, edges, shape, list)
+    check_members(deck, labels, edges, shape, index, memo, list)
 }

@@ -5,6 +5,8 @@ ghost use Prim.Native.Nat.{_*_, _<_};
 ghost use Rattle.deck.specs.Content.{deckOf};
 ghost use Rattle.deck.specs.Deck.{roleCount, conceptCount, roleOf, Axiom};
 ghost use Rattle.deck.specs.Reads.{listOf, ListFits};
+ghost use Rattle.eval.specs.Index.{Indexed};
+ghost use Rattle.eval.specs.Equipped.{Equipped};
 ghost use Rattle.eval.specs.Lent.{Fits, structureOf};
 ghost use Rattle.eval.specs.Verdict.{links, verdict};
 use crate::chains::check_composed;
@@ -25,13 +27,16 @@ pub fn check_sub_property(
     labels: &[u64],
     edges: &[[u32; 3]],
     shape: Shape,
+    index: &[u32],
+    memo: &mut [u16],
     sub: RoleWord,
     sup: RoleWord,
 ) -> Verdict
-    requires { ⌜ Fits (now deck) (now labels) (now edges) shape ⌝ }
+    requires { ⌜ Equipped (now deck) (now labels) (now edges) shape (now index) (now memo) ⌝ }
     requires { ⌜ sub .0 < 2 * roleCount (deckOf (now deck)) ⌝ }
     requires { ⌜ sup .0 < 2 * roleCount (deckOf (now deck)) ⌝ }
-    ensures { λ v. ⌜ v ≡ verdict (deckOf (now (deck .entry))) (structureOf (deckOf (now (deck .entry))) (now (labels .entry)) (now (edges .entry)) shape) (Axiom.SubObjectPropertyOf (roleOf (sub .0)) (roleOf (sup .0))) ⌝ }
+    ensures is { λ v. ⌜ v ≡ verdict (deckOf (now (deck .entry))) (structureOf (deckOf (now (deck .entry))) (now (labels .entry)) (now (edges .entry)) shape) (Axiom.SubObjectPropertyOf (roleOf (sub .0)) (roleOf (sup .0))) ⌝ }
+    ensures kept { λ _. ⌜ Equipped (now (deck .entry)) (now (labels .entry)) (now (edges .entry)) shape (now (index .entry)) (now (memo .exit)) ⌝ }
 {
     if sub.is_inverse() {
         return Verdict::UnhandledAxiom(4, 1);
@@ -39,7 +44,16 @@ pub fn check_sub_property(
     if sup.is_inverse() {
         return Verdict::UnhandledAxiom(4, 1);
     }
-    check_pairs(deck, labels, edges, shape, sub, Demand::Within(sup))
+    check_pairs(
+        deck,
+        labels,
+        edges,
+        shape,
+        index,
+        memo,
+        sub,
+        Demand::Within(sup),
+    )
 }
 
 // The from of each edge is in the concept.
@@ -48,18 +62,30 @@ pub fn check_domain(
     labels: &[u64],
     edges: &[[u32; 3]],
     shape: Shape,
+    index: &[u32],
+    memo: &mut [u16],
     role: RoleWord,
     domain: ConceptId,
 ) -> Verdict
-    requires { ⌜ Fits (now deck) (now labels) (now edges) shape ⌝ }
+    requires { ⌜ Equipped (now deck) (now labels) (now edges) shape (now index) (now memo) ⌝ }
     requires { ⌜ role .0 < 2 * roleCount (deckOf (now deck)) ⌝ }
     requires { ⌜ domain .0 < conceptCount (deckOf (now deck)) ⌝ }
-    ensures { λ v. ⌜ v ≡ verdict (deckOf (now (deck .entry))) (structureOf (deckOf (now (deck .entry))) (now (labels .entry)) (now (edges .entry)) shape) (Axiom.ObjectPropertyDomain (roleOf (role .0)) (domain .0)) ⌝ }
+    ensures is { λ v. ⌜ v ≡ verdict (deckOf (now (deck .entry))) (structureOf (deckOf (now (deck .entry))) (now (labels .entry)) (now (edges .entry)) shape) (Axiom.ObjectPropertyDomain (roleOf (role .0)) (domain .0)) ⌝ }
+    ensures kept { λ _. ⌜ Equipped (now (deck .entry)) (now (labels .entry)) (now (edges .entry)) shape (now (index .entry)) (now (memo .exit)) ⌝ }
 {
     if role.is_inverse() {
         return Verdict::UnhandledAxiom(9, 1);
     }
-    check_pairs(deck, labels, edges, shape, role, Demand::Domain(domain))
+    check_pairs(
+        deck,
+        labels,
+        edges,
+        shape,
+        index,
+        memo,
+        role,
+        Demand::Domain(domain),
+    )
 }
 
 // The to of each edge is in the concept.
@@ -68,18 +94,30 @@ pub fn check_range(
     labels: &[u64],
     edges: &[[u32; 3]],
     shape: Shape,
+    index: &[u32],
+    memo: &mut [u16],
     role: RoleWord,
     range: ConceptId,
 ) -> Verdict
-    requires { ⌜ Fits (now deck) (now labels) (now edges) shape ⌝ }
+    requires { ⌜ Equipped (now deck) (now labels) (now edges) shape (now index) (now memo) ⌝ }
     requires { ⌜ role .0 < 2 * roleCount (deckOf (now deck)) ⌝ }
     requires { ⌜ range .0 < conceptCount (deckOf (now deck)) ⌝ }
-    ensures { λ v. ⌜ v ≡ verdict (deckOf (now (deck .entry))) (structureOf (deckOf (now (deck .entry))) (now (labels .entry)) (now (edges .entry)) shape) (Axiom.ObjectPropertyRange (roleOf (role .0)) (range .0)) ⌝ }
+    ensures is { λ v. ⌜ v ≡ verdict (deckOf (now (deck .entry))) (structureOf (deckOf (now (deck .entry))) (now (labels .entry)) (now (edges .entry)) shape) (Axiom.ObjectPropertyRange (roleOf (role .0)) (range .0)) ⌝ }
+    ensures kept { λ _. ⌜ Equipped (now (deck .entry)) (now (labels .entry)) (now (edges .entry)) shape (now (index .entry)) (now (memo .exit)) ⌝ }
 {
     if role.is_inverse() {
         return Verdict::UnhandledAxiom(10, 1);
     }
-    check_pairs(deck, labels, edges, shape, role, Demand::Range(range))
+    check_pairs(
+        deck,
+        labels,
+        edges,
+        shape,
+        index,
+        memo,
+        role,
+        Demand::Range(range),
+    )
 }
 
 // Two edges, one after the other, make an edge.
@@ -88,17 +126,19 @@ pub fn check_transitive(
     labels: &[u64],
     edges: &[[u32; 3]],
     shape: Shape,
+    index: &[u32],
     role: RoleWord,
 ) -> Verdict
     requires { ⌜ Fits (now deck) (now labels) (now edges) shape ⌝ }
     requires { ⌜ role .0 < 2 * roleCount (deckOf (now deck)) ⌝ }
+    requires { ⌜ Indexed (now edges) (shape .elements) (shape .edges) (now index) ⌝ }
     ensures { λ v. ⌜ v ≡ verdict (deckOf (now (deck .entry))) (structureOf (deckOf (now (deck .entry))) (now (labels .entry)) (now (edges .entry)) shape) (Axiom.TransitiveRole (roleOf (role .0))) ⌝ }
 {
     if role.is_inverse() {
         return Verdict::UnhandledAxiom(11, 1);
     }
     let r = role.role_id();
-    check_composed(deck, labels, edges, shape, r, r, r)
+    check_composed(deck, labels, edges, shape, index, r, r, r)
 }
 
 // The role is to have no edges.
@@ -152,6 +192,7 @@ fn check_links(
     labels: &[u64],
     edges: &[[u32; 3]],
     shape: Shape,
+    index: &[u32],
     a: RoleWord,
     b: RoleWord,
     sup: RoleWord,
@@ -160,6 +201,7 @@ fn check_links(
     requires { ⌜ a .0 < 2 * roleCount (deckOf (now deck)) ⌝ }
     requires { ⌜ b .0 < 2 * roleCount (deckOf (now deck)) ⌝ }
     requires { ⌜ sup .0 < 2 * roleCount (deckOf (now deck)) ⌝ }
+    requires { ⌜ Indexed (now edges) (shape .elements) (shape .edges) (now index) ⌝ }
     ensures { λ v. ⌜ v ≡ links (deckOf (now (deck .entry))) (structureOf (deckOf (now (deck .entry))) (now (labels .entry)) (now (edges .entry)) shape) (roleOf (a .0)) (roleOf (b .0)) (roleOf (sup .0)) ⌝ }
 {
     if a.is_inverse() {
@@ -176,6 +218,7 @@ fn check_links(
         labels,
         edges,
         shape,
+        index,
         a.role_id(),
         b.role_id(),
         sup.role_id(),
@@ -188,12 +231,14 @@ pub fn check_chain(
     labels: &[u64],
     edges: &[[u32; 3]],
     shape: Shape,
+    index: &[u32],
     list: Span,
     sup: RoleWord,
 ) -> Verdict
     requires { ⌜ Fits (now deck) (now labels) (now edges) shape ⌝ }
     requires { ⌜ ListFits (now deck) (2 * roleCount (deckOf (now deck))) list ⌝ }
     requires { ⌜ sup .0 < 2 * roleCount (deckOf (now deck)) ⌝ }
+    requires { ⌜ Indexed (now edges) (shape .elements) (shape .edges) (now index) ⌝ }
     ensures { λ v. ⌜ v ≡ verdict (deckOf (now (deck .entry))) (structureOf (deckOf (now (deck .entry))) (now (labels .entry)) (now (edges .entry)) shape) (Axiom.SubObjectPropertyChain (map roleOf (listOf (now (deck .entry)) list)) (roleOf (sup .0))) ⌝ }
 {
     if list.count != 2 {
@@ -201,5 +246,5 @@ pub fn check_chain(
     }
     let a = RoleWord(item(deck, list, 0));
     let b = RoleWord(item(deck, list, 1));
-    check_links(deck, labels, edges, shape, a, b, sup)
+    check_links(deck, labels, edges, shape, index, a, b, sup)
 }

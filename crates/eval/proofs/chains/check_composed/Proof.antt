@@ -1,4 +1,6 @@
 use mathlib.Core.Path.{_∙_}
+use denote.Ref.{now}
+use Rattle.eval.proofs.LentLaws.{edge-fits}
 use Rattle.eval.proofs.PairLaws.{composed-fail, composed-hold}
 use borrow.Author.Needs.{needs}
 use Rattle.eval.proofs.chains.check_composed.Statement.{statement}
@@ -12,13 +14,17 @@ lowest-composed-requires : tie.Need-lowest-composed-requires
 lowest-composed-requires c κs = search needs
 
 check-onward-requires : tie.Need-check-onward-requires
-check-onward-requires c κs = search needs
+check-onward-requires c κs =
+    let z = c .before .before .before .before .before in
+    let w = c .before .lowest-composed .ensures .fails (c .if1 .taken) in
+    let f = edge-fits (now (z .args .deck)) (now (z .args .labels)) (now (z .args .edges)) (z .args .shape) (z .pre .0) (w .edge) (w .met .member) in
+    (z .pre .0, (z .pre .1 .1 .0, (z .pre .1 .1 .1 .0, (z .pre .1 .1 .1 .1, (rw (w .from-is) at (f .from), rw (w .to-is) at (f .to))))))
 
 returns : tie.Need-returns
-returns c = let z = c .before .before .before .before .before in c .check-onward .ensures ∙ composed-fail _ _ _ _ (z .pre .0) (z .args .a .0) (z .args .b .0) (z .args .sup .0) (c .before .before .lowest-composed .ensures) (c .before .if1 .taken)
+returns c = let z = c .before .before .before .before .before .before in c .check-onward .ensures ∙ composed-fail _ _ _ _ (z .pre .0) (z .args .a .0) (z .args .b .0) (z .args .sup .0) (c .before .before .lowest-composed .ensures) (c .before .if1 .taken)
 
 returns-2 : tie.Need-returns-2
-returns-2 c = let z = c .before .before .before .before in composed-hold _ _ _ _ (z .pre .0) (z .args .a .0) (z .args .b .0) (z .args .sup .0) (c .before .lowest-composed .ensures) (c .if1 .left)
+returns-2 c = let z = c .before .before .before .before .before in composed-hold _ _ _ _ (z .pre .0) (z .args .a .0) (z .args .b .0) (z .args .sup .0) (c .before .lowest-composed .ensures) (c .if1 .left)
 
 pub check-composed-spec : {M : Type 1} → statement M
 check-composed-spec =

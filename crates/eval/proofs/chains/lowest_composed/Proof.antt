@@ -24,11 +24,11 @@ use Rattle.eval.proofs.lowest.Lowest.next.Reads as next-reads
 use Rattle.eval.proofs.verdict.holds.Reads as holds-reads
 
 abbrev Inv-loop : tie.InvT-loop
-Inv-loop deck labels edges shape a b sup count lowest₀ i₀ lowest i =
+Inv-loop deck labels edges shape index a b sup count lowest₀ i₀ lowest i =
     (i ≤ shape .edges) × SeenTo (under (deckOf deck) (a .0)) (λ e. truth (isHolds (onward (deckOf deck) (structureOf (deckOf deck) labels edges shape) (b .0) (sup .0) (e .from .0) (e .to .0)))) (edgesOf edges (shape .edges)) i lowest
 
 abbrev μ-loop : tie.MeasureT-loop
-μ-loop deck labels edges shape a b sup count lowest₀ i₀ lowest i = shape .edges - i
+μ-loop deck labels edges shape index a b sup count lowest₀ i₀ lowest i = shape .edges - i
 
 cast-count : tie.Need-cast-count Inv-loop μ-loop
 cast-count c = search needs
@@ -38,24 +38,24 @@ new-requires c κs = search needs
 
 loop-holds : tie.Need-loop-holds Inv-loop μ-loop
 loop-holds c =
-    let z = c .before .before .before .before in
+    let z = c .before .before .before .before .before in
     (omega arith, rw (c .new .ensures) (seen-start _ _ (edgesOf (now (z .args .edges)) (z .args .shape .edges))))
 
 edge-at-requires : tie.Need-edge-at-requires Inv-loop μ-loop
-edge-at-requires c κs = omega (arith, c .before .before .before .before .before .before .pre .0 .count)
+edge-at-requires c κs = omega (arith, c .before .before .before .before .before .before .before .pre .0 .count)
 
 add-i : tie.Need-add-i Inv-loop μ-loop
-add-i c = omega (arith, c .before .before .before .before .before .before .before .pre .0 .count)
+add-i c = omega (arith, c .before .before .before .before .before .before .before .before .pre .0 .count)
 
 is-sub-role-requires : tie.Need-is-sub-role-requires Inv-loop μ-loop
-is-sub-role-requires c κs = let z = c .before .before .before .before .before .before .before in (z .pre .0 .accepted, z .pre .1 .0)
+is-sub-role-requires c κs = let z = c .before .before .before .before .before .before .before .before in (z .pre .0 .accepted, z .pre .1 .0)
 
 loop-less : tie.Need-loop-less Inv-loop μ-loop
 loop-less c = omega arith
 
 loop-again : tie.Need-loop-again Inv-loop μ-loop
 loop-again c =
-    let z = c .before .before .before .before .before .before .before .before .before in
+    let z = c .before .before .before .before .before .before .before .before .before .before in
     let rows = now (z .args .edges) in
     let n = z .args .shape .edges in
     let i : c .before .before .before .before .loop .i < n = omega arith in
@@ -63,7 +63,11 @@ loop-again c =
     (omega arith, seen-skip _ _ (edgesOf rows n) noEdge (c .before .before .before .before .loop .i) (omega (arith, edges-length rows n (z .pre .0 .count))) (rw same at (sym (c .before .is-sub-role .ensures) ∙ not-true _ (c .if1 .taken))) (c .before .before .before .before .loop .inv .1))
 
 check-onward-requires : tie.Need-check-onward-requires Inv-loop μ-loop
-check-onward-requires c κs = let z = c .before .before .before .before .before .before .before .before .before in (z .pre .0, (z .pre .1 .1 .0, z .pre .1 .1 .1))
+check-onward-requires c κs =
+    let z = c .before .before .before .before .before .before .before .before .before .before in
+    let l = z .pre .0 .ends (c .before .before .before .before .loop .i) (omega (arith, c .before .before .before .loop-test)) in
+    let e = c .before .before .edge-at .ensures in
+    (z .pre .0, (z .pre .1 .1 .0, (z .pre .1 .1 .1 .0, (z .pre .1 .1 .1 .1, (rw e (l .from), rw e (l .to))))))
 
 holds-requires : tie.Need-holds-requires Inv-loop μ-loop
 holds-requires c κs = search needs
@@ -79,7 +83,7 @@ loop-less-2 c = omega arith
 
 loop-again-2 : tie.Need-loop-again-2 Inv-loop μ-loop
 loop-again-2 c =
-    let z = c .before .before .before .before .before .before .before .before .before .before .before .before .before in
+    let z = c .before .before .before .before .before .before .before .before .before .before .before .before .before .before in
     let rows = now (z .args .edges) in
     let n = z .args .shape .edges in
     let i : c .before .before .before .before .before .before .before .before .loop .i < n = omega arith in
@@ -91,7 +95,7 @@ loop-again-2 c =
 
 returns : tie.Need-returns Inv-loop μ-loop
 returns c =
-    let z = c .before .before .before .before .before .before in
+    let z = c .before .before .before .before .before .before .before in
     let rows = now (z .args .edges) in
     let n = z .args .shape .edges in
     seen-end _ _ (edgesOf rows n) (c .before .loop .i) (omega (arith, edges-length rows n (z .pre .0 .count))) (c .before .loop .inv .1)

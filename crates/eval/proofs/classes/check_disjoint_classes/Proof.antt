@@ -1,3 +1,6 @@
+use lib.ListN.{length}
+use Rattle.eval.specs.Equipped.{Equipped}
+use mathlib.Core.Path.{_≡_, refl, _∙_}
 use Prim.Native.Nat.{_-_}
 use native.Mathlib.Omega.{arith}
 use borrow.Author.Needs.{needs}
@@ -19,47 +22,53 @@ use Rattle.eval.proofs.verdict.unresolved_or_holds.Reads as unresolved-
 use Rattle.eval.proofs.votes.Votes.at_most_one.Reads as at-most-one-reads
 
 abbrev Inv-loop : tie.InvT-loop
-Inv-loop deck labels edges shape list elements standing₀ e₀ standing e =
-    Passed (λ x. atMostOne (map (λ m. judge (deckOf deck) (structureOf (deckOf deck) labels edges shape) m x) (listOf deck list))) elements e standing
+Inv-loop deck labels edges shape index memo₀ list elements standing₀ e₀ memo standing e =
+    Passed (λ x. atMostOne (map (λ m. judge (deckOf deck) (structureOf (deckOf deck) labels edges shape) m x) (listOf deck list))) elements e standing × (length memo ≡ length memo₀) × Equipped deck labels edges shape index memo
 
 abbrev μ-loop : tie.MeasureT-loop
-μ-loop deck labels edges shape list elements standing₀ e₀ standing e = elements - e
+μ-loop deck labels edges shape index memo₀ list elements standing₀ e₀ memo standing e = elements - e
 
 new-requires : tie.Need-new-requires Inv-loop μ-loop
 new-requires c κs = search needs
 
 loop-holds : tie.Need-loop-holds Inv-loop μ-loop
-loop-holds c = passed-none _ _ (c .new .ensures)
+loop-holds c = (passed-none _ _ (c .new .ensures), refl, c .before .before .before .before .before .pre .0)
 
 votes-at-requires : tie.Need-votes-at-requires Inv-loop μ-loop
-votes-at-requires c κs = let z = c .before .before .before .before .before in (z .pre .0, (z .pre .1, omega arith))
+votes-at-requires c κs = let z = c .before .before .before .before .before .before .before .before in (c .before .before .loop .inv .2, (z .pre .1, omega arith))
 
 at-most-one-requires : tie.Need-at-most-one-requires Inv-loop μ-loop
-at-most-one-requires c κs = omega (arith, c .votes-at .ensures .1, c .before .before .before .before .before .before .good)
+at-most-one-requires c κs = omega (arith, c .before .before .votes-at .ensures .1 .0, c .before .before .before .before .before .before .before .before .before .before .before .good)
 
 and-requires : tie.Need-and-requires Inv-loop μ-loop
 and-requires c κs = search needs
 
+same-length : tie.Need-same-length Inv-loop μ-loop
+same-length c = c .before .before .before .before .before .votes-at .kept .1 .1 .1 .1 .1 .0 ∙ c .before .before .before .before .before .before .before .before .loop .inv .1
+
 returns : tie.Need-returns Inv-loop μ-loop
 unfolding verdict atMostOne
-returns c = passed-stop (c .before .before .before .before .before .loop .inv) (omega arith) (rw (c .before .before .before .votes-at .ensures .0) at (c .before .before .at-most-one .ensures)) (c .before .and .ensures) (c .if1 .taken)
+returns c = (passed-stop (c .before .before .before .before .before .before .before .before .loop .inv .0) (omega arith) (rw (c .before .before .before .before .before .votes-at .ensures .0) at (c .before .before .at-most-one .ensures)) (c .before .and .ensures) (c .if1 .taken), c .before .before .before .before .before .votes-at .ensures .1 .1)
 
 add-e : tie.Need-add-e Inv-loop μ-loop
-add-e c = omega (arith, c .before .before .before .before .before .before .before .before .before .good)
+add-e c = omega (arith, c .before .before .before .before .before .before .before .before .before .before .before .before .before .before .good)
 
 loop-less : tie.Need-loop-less Inv-loop μ-loop
 loop-less c = omega arith
 
 loop-again : tie.Need-loop-again Inv-loop μ-loop
 unfolding atMostOne
-loop-again c = passed-more (c .before .before .before .before .before .loop .inv) (omega arith) (rw (c .before .before .before .votes-at .ensures .0) at (c .before .before .at-most-one .ensures)) (c .before .and .ensures) (c .if1 .left)
+loop-again c = (passed-more (c .before .before .before .before .before .before .before .before .loop .inv .0) (omega arith) (rw (c .before .before .before .before .before .votes-at .ensures .0) at (c .before .before .at-most-one .ensures)) (c .before .and .ensures) (c .if1 .left), c .before .before .before .before .before .votes-at .kept .1 .1 .1 .1 .1 .0 ∙ c .before .before .before .before .before .before .before .before .loop .inv .1, c .before .before .before .before .before .votes-at .ensures .1 .1)
 
 unresolved-or-holds-requires : tie.Need-unresolved-or-holds-requires Inv-loop μ-loop
 unresolved-or-holds-requires c κs = search needs
 
+same-length-2 : tie.Need-same-length-2 Inv-loop μ-loop
+same-length-2 c = c .before .before .loop .inv .1
+
 returns-2 : tie.Need-returns-2 Inv-loop μ-loop
 unfolding verdict
-returns-2 c = passed-all (c .before .before .loop .inv) (omega arith) (c .unresolved-or-holds .ensures)
+returns-2 c = (passed-all (c .before .before .loop .inv .0) (omega arith) (c .unresolved-or-holds .ensures), c .before .before .loop .inv .2)
 
 pub check-disjoint-classes-spec : {M : Type 1} → statement M
 check-disjoint-classes-spec =
@@ -72,9 +81,11 @@ check-disjoint-classes-spec =
     votes-at-requires
     at-most-one-requires
     and-requires
+    same-length
     returns
     add-e
     loop-less
     loop-again
     unresolved-or-holds-requires
+    same-length-2
     returns-2)

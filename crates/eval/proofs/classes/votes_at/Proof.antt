@@ -4,8 +4,9 @@ use native.Mathlib.Omega.{arith}
 use borrow.Author.Needs.{needs}
 use denote.Ref.{now}
 use mathlib.Core.List.{map}
-use mathlib.Core.Path.{_≡_, sym, _∙_}
-use lib.ListN.{drop}
+use mathlib.Core.Path.{_≡_, refl, sym, _∙_}
+use lib.ListN.{length, drop}
+use Rattle.eval.specs.Equipped.{Equipped}
 use Rattle.deck.specs.Content.{deckOf}
 use Rattle.deck.specs.Reads.{listOf}
 use Rattle.deck.proofs.TableLaws.{list-length}
@@ -24,53 +25,56 @@ use Rattle.eval.proofs.votes.Votes.new.Reads as new-reads
 use Rattle.eval.proofs.votes.Votes.vote.Reads as vote-reads
 
 abbrev Inv-loop : tie.InvT-loop
-Inv-loop deck labels edges shape list e count votes₀ i₀ v i =
+Inv-loop deck labels edges shape index memo₀ list e count votes₀ i₀ memo v i =
     let f : ℕ → Judgement = λ o. judge (deckOf deck) (structureOf (deckOf deck) labels edges shape) o (e .0) in
-    (i ≤ count) × (v .trues + v .falses + v .unresolved ≤ i) × (votes noVotes (map f (listOf deck list)) ≡ votes v (map f (drop i (listOf deck list))))
+    (i ≤ count) × (v .trues + v .falses + v .unresolved ≤ i) × (votes noVotes (map f (listOf deck list)) ≡ votes v (map f (drop i (listOf deck list)))) × (length memo ≡ length memo₀) × Equipped deck labels edges shape index memo
 
 abbrev μ-loop : tie.MeasureT-loop
-μ-loop deck labels edges shape list e count votes₀ i₀ v i = count - i
+μ-loop deck labels edges shape index memo₀ list e count votes₀ i₀ memo v i = count - i
 
 new-requires : tie.Need-new-requires Inv-loop μ-loop
 new-requires c κs = search needs
 
 loop-holds : tie.Need-loop-holds Inv-loop μ-loop
-loop-holds c = (omega arith, rw (c .new .ensures) (omega arith), rw (c .new .ensures))
+loop-holds c = (omega arith, rw (c .new .ensures) (omega arith), rw (c .new .ensures), refl, c .before .before .before .before .before .pre .0)
 
 item-requires : tie.Need-item-requires Inv-loop μ-loop
-item-requires c κs = let z = c .before .before .before .before .before in (z .pre .0 .accepted, (z .pre .1 .0 .within, omega arith))
+item-requires c κs = let z = c .before .before .before .before .before .before .before in (z .pre .0 .fits .accepted, (z .pre .1 .0 .within, omega arith))
 
 eval-concept-requires : tie.Need-eval-concept-requires Inv-loop μ-loop
 eval-concept-requires c κs =
-    let z = c .before .before .before .before .before .before in
+    let z = c .before .before .before .before .before .before .before .before .before in
     let l = z .args .list in
-    let o = z .pre .1 .0 .below (c .before .before .loop .i) (omega (arith, list-length (now (z .args .deck)) (l .start) (l .count))) in
-    (z .pre .0, (omega (arith, o, c .item .ensures), z .pre .1 .1))
+    let o = z .pre .1 .0 .below (c .before .before .before .loop .i) (omega (arith, list-length (now (z .args .deck)) (l .start) (l .count))) in
+    (c .before .before .before .loop .inv .4, (omega (arith, o, c .before .item .ensures), z .pre .1 .1))
 
 vote-requires : tie.Need-vote-requires Inv-loop μ-loop
-vote-requires c κs = omega (arith, c .before .before .before .loop .inv .1, c .before .before .before .before .before .before .before .good)
+vote-requires c κs = omega (arith, c .before .before .before .before .before .before .loop .inv .1, c .before .before .before .before .before .before .before .before .before .before .before .before .good)
 
 add-i : tie.Need-add-i Inv-loop μ-loop
-add-i c = omega (arith, c .before .before .before .before .before .before .before .before .good)
+add-i c = omega (arith, c .before .before .before .before .before .before .before .before .before .before .before .before .before .good)
 
 loop-less : tie.Need-loop-less Inv-loop μ-loop
 loop-less c = omega arith
 
 loop-again : tie.Need-loop-again Inv-loop μ-loop
 loop-again c =
-    let z = c .before .before .before .before .before .before .before .before in
+    let z = c .before .before .before .before .before .before .before .before .before .before .before .before .before in
     let l = z .args .list in
-    let w = c .before .before .before .before .loop in
+    let w = c .before .before .before .before .before .before .before .loop in
     let h = list-length (now (z .args .deck)) (l .start) (l .count) in
-    (omega arith, omega (arith, vote-adds (w .votes) (c .before .eval-concept .result) (c .vote .ensures)), w .inv .2 ∙ votes-step _ (w .votes) (listOf (now (z .args .deck)) l) (w .i) (omega (arith, h)) (rw (c .before .before .item .ensures) at (c .before .eval-concept .ensures)) (c .vote .ensures))
+    (omega arith, omega (arith, vote-adds (w .votes) (c .before .before .before .eval-concept .result) (c .vote .ensures)), w .inv .2 ∙ votes-step _ (w .votes) (listOf (now (z .args .deck)) l) (w .i) (omega (arith, h)) (rw (c .before .before .before .before .before .item .ensures) at (c .before .before .before .eval-concept .ensures .0)) (c .vote .ensures), c .before .before .before .eval-concept .kept .1 .1 .1 .1 .1 .0 ∙ w .inv .3, c .before .before .before .eval-concept .ensures .1)
+
+same-length : tie.Need-same-length Inv-loop μ-loop
+same-length c = c .before .loop .inv .3
 
 returns : tie.Need-returns Inv-loop μ-loop
 returns c =
-    let z = c .before .before .before .before .before in
+    let z = c .before .before .before .before .before .before .before in
     let l = z .args .list in
     let w = c .before .loop in
     let h = list-length (now (z .args .deck)) (l .start) (l .count) in
-    (votes-end _ (w .votes) (listOf (now (z .args .deck)) l) (w .i) (omega (arith, h)) ∙ sym (w .inv .2), omega arith)
+    (votes-end _ (w .votes) (listOf (now (z .args .deck)) l) (w .i) (omega (arith, h)) ∙ sym (w .inv .2), (omega arith, w .inv .4))
 
 pub votes-at-spec : {M : Type 1} → statement M
 votes-at-spec =
@@ -86,4 +90,5 @@ votes-at-spec =
     add-i
     loop-less
     loop-again
+    same-length
     returns)

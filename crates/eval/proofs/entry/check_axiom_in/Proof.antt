@@ -7,7 +7,7 @@ use Rattle.eval.proofs.entry.check_axiom_in.Tie as tie
 use Rattle.eval.proofs.entry.check_axiom_in.Reads as reads
 use Rattle.eval.proofs.entry.check_axiom_in.Lts as lts
 use Rattle.deck.proofs.axioms.axiom_count.Reads as axiom-count-reads
-use Rattle.eval.proofs.axioms.check_axiom.Reads as check-axiom-reads
+use Rattle.eval.proofs.equip.judge_axiom.Reads as judge-axiom-reads
 use Rattle.eval.proofs.entry.lent_answer.Reads as lent-answer-reads
 
 lent-answer-requires : tie.Need-lent-answer-requires
@@ -28,13 +28,13 @@ axiom-count-requires c κs = lent-fits _ _ _ _ (sym (c .before .before .lent-ans
 returns-2 : tie.Need-returns-2
 returns-2 c = axiom-absent _ _ _ _ _ (sym (c .before .before .before .before .lent-answer .ensures) ∙ c .before .before .enum-told .given .1) (omega (arith, c .before .axiom-count .ensures .is))
 
-check-axiom-requires : tie.Need-check-axiom-requires
-check-axiom-requires c κs =
+judge-axiom-requires : tie.Need-judge-axiom-requires
+judge-axiom-requires c κs =
     (lent-fits _ _ _ _ (sym (c .before .before .before .before .lent-answer .ensures) ∙ c .before .before .enum-told .given .1), omega (arith, c .before .axiom-count .ensures .is))
 
 returns-3 : tie.Need-returns-3
 returns-3 c =
-    axiom-checked _ _ _ _ _ _ (sym (c .before .before .before .before .before .lent-answer .ensures) ∙ c .before .before .before .enum-told .given .1) (omega (arith, c .before .if1 .left, c .before .before .axiom-count .ensures .is)) (c .check-axiom .ensures .0) (c .check-axiom .ensures .1)
+    axiom-checked _ _ _ _ _ _ (sym (c .before .before .before .before .before .lent-answer .ensures) ∙ c .before .before .before .enum-told .given .1) (omega (arith, c .before .if1 .left, c .before .before .axiom-count .ensures .is)) (c .judge-axiom .ensures .0) (c .judge-axiom .ensures .1)
 
 pub check-axiom-in-spec : {M : Type 1} → statement M
 check-axiom-in-spec =
@@ -46,5 +46,5 @@ check-axiom-in-spec =
     enum-told
     axiom-count-requires
     returns-2
-    check-axiom-requires
+    judge-axiom-requires
     returns-3)

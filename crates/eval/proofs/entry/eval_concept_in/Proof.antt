@@ -7,7 +7,7 @@ use Rattle.eval.proofs.entry.eval_concept_in.Tie as tie
 use Rattle.eval.proofs.entry.eval_concept_in.Reads as reads
 use Rattle.eval.proofs.entry.eval_concept_in.Lts as lts
 use Rattle.deck.proofs.concepts.concept_count.Reads as concept-count-reads
-use Rattle.eval.proofs.concepts.eval_concept.Reads as eval-concept-reads
+use Rattle.eval.proofs.equip.judge_concept.Reads as judge-concept-reads
 use Rattle.eval.proofs.entry.lent_answer.Reads as lent-answer-reads
 
 lent-answer-requires : tie.Need-lent-answer-requires
@@ -31,13 +31,13 @@ returns-2 c = concept-absent _ _ _ _ _ _ (sym (c .before .before .before .before
 returns-3 : tie.Need-returns-3
 returns-3 c = element-absent _ _ _ _ _ _ (sym (c .before .before .before .before .before .before .before .lent-answer .ensures) ∙ c .before .before .before .before .before .enum-told .given .1) (omega (arith, c .if2 .taken))
 
-eval-concept-requires : tie.Need-eval-concept-requires
-eval-concept-requires c κs =
+judge-concept-requires : tie.Need-judge-concept-requires
+judge-concept-requires c κs =
     (lent-fits _ _ _ _ (sym (c .before .before .before .before .before .before .before .lent-answer .ensures) ∙ c .before .before .before .before .before .enum-told .given .1), (omega (arith, c .before .before .before .before .concept-count .ensures .is), omega (arith, c .if2 .left)))
 
 returns-4 : tie.Need-returns-4
 returns-4 c =
-    concept-judged _ _ _ _ _ _ _ (sym (c .before .before .before .before .before .before .before .before .lent-answer .ensures) ∙ c .before .before .before .before .before .before .enum-told .given .1) (omega (arith, c .before .before .before .if1 .left, c .before .before .before .before .before .concept-count .ensures .is)) (omega (arith, c .before .if2 .left)) (c .eval-concept .ensures)
+    concept-judged _ _ _ _ _ _ _ (sym (c .before .before .before .before .before .before .before .before .lent-answer .ensures) ∙ c .before .before .before .before .before .before .enum-told .given .1) (omega (arith, c .before .before .before .if1 .left, c .before .before .before .before .before .concept-count .ensures .is)) (omega (arith, c .before .if2 .left)) (c .judge-concept .ensures)
 
 pub eval-concept-in-spec : {M : Type 1} → statement M
 eval-concept-in-spec =
@@ -50,5 +50,5 @@ eval-concept-in-spec =
     concept-count-requires
     returns-2
     returns-3
-    eval-concept-requires
+    judge-concept-requires
     returns-4)

@@ -9,19 +9,28 @@ use Rattle.eval.proofs.equivalent.any_inverse.Reads as any-inverse-read
 use Rattle.eval.proofs.equivalent.check_members.Reads as check-members-reads
 
 any-inverse-requires : tie.Need-any-inverse-requires
-any-inverse-requires c κs = let z = c .before .before in (z .pre .0 .accepted, z .pre .1)
+any-inverse-requires c κs = let z = c .before .before .before .before in (z .pre .0 .fits .accepted, z .pre .1)
 
 returns : tie.Need-returns
 unfolding verdict
-returns c = rw (sym (c .before .any-inverse .ensures) ∙ c .if1 .taken)
+returns c = (rw (sym (c .before .any-inverse .ensures) ∙ c .if1 .taken), c .before .before .before .before .before .before .pre .0)
 
 check-members-requires : tie.Need-check-members-requires
 check-members-requires c κs = search needs
 
+same-length : tie.Need-same-length
+same-length c = c .before .before .check-members .kept .1 .1 .1 .1 .1 .0
+
 returns-2 : tie.Need-returns-2
 unfolding verdict
-returns-2 c = rw (sym (c .before .before .any-inverse .ensures) ∙ c .before .if1 .left) (c .check-members .ensures)
+returns-2 c = (rw (sym (c .before .before .before .before .before .any-inverse .ensures) ∙ c .before .before .before .before .if1 .left) (c .before .before .check-members .ensures .0), c .before .before .check-members .ensures .1)
 
 pub check-equivalent-properties-spec : {M : Type 1} → statement M
 check-equivalent-properties-spec =
-    tie.close (tie.spec any-inverse-requires returns check-members-requires returns-2)
+    tie.close
+    (tie.spec
+    any-inverse-requires
+    returns
+    check-members-requires
+    same-length
+    returns-2)

@@ -17,7 +17,7 @@ use Rattle.eval.proofs.roles.check_links.Reads as check-links-reads
 returns : tie.Need-returns
 unfolding verdict
 returns c =
-    let z = c .before .before .before .before in
+    let z = c .before .before .before .before .before in
     let l = z .args .list in
     let h = list-length (now (z .args .deck)) (l .start) (l .count) in
     chain-other _ _ (listOf (now (z .args .deck)) l) (roleOf (z .args .sup .0)) (λ e. c .if1 .taken (omega (arith, h, e)))
@@ -30,16 +30,16 @@ item-requires-2 c κs = search needs
 
 check-links-requires : tie.Need-check-links-requires
 check-links-requires c κs =
-    let z = c .before .before .before .before .before .before in
+    let z = c .before .before .before .before .before .before .before in
     let l = z .args .list in
     let h = list-length (now (z .args .deck)) (l .start) (l .count) in
     let b = z .pre .1 .0 .below in
-    (z .pre .0, (omega (arith, c .before .item .ensures, b 0 (omega (arith, h, c .before .before .if1 .left))), (omega (arith, c .item2 .ensures, b 1 (omega (arith, h, c .before .before .if1 .left))), z .pre .1 .1)))
+    (z .pre .0, (omega (arith, c .before .item .ensures, b 0 (omega (arith, h, c .before .before .if1 .left))), (omega (arith, c .item2 .ensures, b 1 (omega (arith, h, c .before .before .if1 .left))), (z .pre .1 .1 .0, z .pre .1 .1 .1))))
 
 returns-2 : tie.Need-returns-2
 unfolding verdict
 returns-2 c =
-    let z = c .before .before .before .before .before .before .before in
+    let z = c .before .before .before .before .before .before .before .before in
     let l = z .args .list in
     let h = list-length (now (z .args .deck)) (l .start) (l .count) in
     rw (c .before .before .item .ensures, c .before .item2 .ensures) at (c .check-links .ensures) ∙ chain-two _ _ (listOf (now (z .args .deck)) l) (roleOf (z .args .sup .0)) (omega (arith, h, c .before .before .before .if1 .left))

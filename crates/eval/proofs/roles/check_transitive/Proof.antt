@@ -20,7 +20,7 @@ is-inverse-requires c κs = search needs
 returns : tie.Need-returns
 unfolding verdict
 returns c =
-    let z = c .before .before .before .before in
+    let z = c .before .before .before .before .before in
     let D = deckOf (now (z .args .deck)) in
     let S = structureOf D (now (z .args .labels)) (now (z .args .edges)) (z .args .shape) in
     inverse-one 11 (z .args .role .0) (λ r. composed D S r r r) (sym (c .before .is-inverse .ensures) ∙ c .if1 .taken)
@@ -29,12 +29,12 @@ role-id-requires : tie.Need-role-id-requires
 role-id-requires c κs = search needs
 
 check-composed-requires : tie.Need-check-composed-requires
-check-composed-requires c κs = let z = c .before .before .before .before .before in let r = c .role-id .ensures in (z .pre .0, (omega (arith, r, z .pre .1), (omega (arith, r, z .pre .1), omega (arith, r, z .pre .1))))
+check-composed-requires c κs = let z = c .before .before .before .before .before .before in let r = c .role-id .ensures in (z .pre .0, (omega (arith, r, z .pre .1 .0), (omega (arith, r, z .pre .1 .0), (omega (arith, r, z .pre .1 .0), z .pre .1 .1))))
 
 returns-2 : tie.Need-returns-2
 unfolding verdict
 returns-2 c =
-    let z = c .before .before .before .before .before .before in
+    let z = c .before .before .before .before .before .before .before in
     let D = deckOf (now (z .args .deck)) in
     let S = structureOf D (now (z .args .labels)) (now (z .args .edges)) (z .args .shape) in
     rw (c .before .role-id .ensures) at (c .check-composed .ensures) ∙ named-one 11 (z .args .role .0) (λ r. composed D S r r r) (sym (c .before .before .before .is-inverse .ensures) ∙ c .before .before .if1 .left)
