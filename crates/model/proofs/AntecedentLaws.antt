@@ -51,7 +51,7 @@ module _ (s : List ℕ) (A : IsAccepted s) (c : ℕ) {expr : ConceptExpr} (R : C
   D = deckOf s
 
   module _ (label : List ℕ) where
-    holds-atomic : (k : ℕ) → expr ≡ ConceptExpr.Atomic (record { 0 = k }) → labelHas label k ≡ holdsAtoms D label c
+    pub holds-atomic : (k : ℕ) → expr ≡ ConceptExpr.Atomic (record { 0 = k }) → labelHas label k ≡ holdsAtoms D label c
     unfolding holdsAtoms every
     holds-atomic k p = go (labelHas label k) refl ∙ ap (λ l. every (map (labelHas label) l)) (atoms-atomic s A c R k p)
       where

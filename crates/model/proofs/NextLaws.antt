@@ -23,7 +23,7 @@ use Rattle.eval.proofs.ListLaws.{member-at}
 use Rattle.eval.proofs.EdgeWalks.{noEdge, edges-length, edges-at}
 use Rattle.model.specs.declared.pairs.Found.{Found}
 use Rattle.model.specs.declared.pairs.Found.the-variants.{At, Nothing}
-use Rattle.model.specs.Pairs.{keyOf, linkKey, EndsFit, first, nearerOf}
+use Rattle.model.specs.Pairs.{keyOf, linkKey, EndsFit, first, nearerOf, Near}
 
 -- ---- kept numbers
 -- a part that passes no test is left out
@@ -89,12 +89,6 @@ module _ (p : ℕ → Bool) (after end : ℕ) (le : after ≤ end) {o : Found} (
         rw y at (first-at p after (end - after) t (sym e ∙ q) .2)
 
 -- ---- the scan
--- b is the lowest number hit, from `after` on and below `end`, and `end` where there is none
-pub record Near (hit : ℕ → Bool) (after end b : ℕ) : Type 0 where
-  pub le : b ≤ end
-  pub none : (u : ℕ) → after ≤ u → u < b → hit u ≡ false
-  pub got : b < end → (after ≤ b) × (hit b ≡ true)
-
 pub near-start : (hit : ℕ → Bool) (after end : ℕ) → ((u : ℕ) → hit u ≡ false) → Near hit after end end
 near-start hit after end h = record { le = omega arith; none = λ u g l. h u; got = λ l. absurd (omega arith) }
 
@@ -165,7 +159,7 @@ unfolding linked edgesOf any
 key-start D rows r u = refl
 
 module _ (D : Deck) (rows : List (List ℕ)) (count r : ℕ) (room : count ≤ length rows) (F : EndsFit (edgesOf rows count)) where
-  ends-at : (i : ℕ) → i < count → getD (getD rows i []) 2 0 < 65536
+  pub ends-at : (i : ℕ) → i < count → getD (getD rows i []) 2 0 < 65536
   unfolding EndsFit
   ends-at i h = rw (edges-at rows count i h room) at (F (getD (edgesOf rows count) i noEdge) (member-at noEdge (edgesOf rows count) i (omega (arith, edges-length rows count room))))
 

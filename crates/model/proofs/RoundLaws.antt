@@ -37,7 +37,7 @@ use Rattle.model.proofs.FloorLaws.{axiom-sub-class, axiom-equivalent}
 use Rattle.model.proofs.WalkLaws.{walk-fixed, walk-placed}
 use Rattle.model.proofs.BuildLaws.{fits-in, built-same, built-is, built-start, built-tripped, built-count, built-quiet, built-trans}
 
-either : {A : Type 0} (b : Bool) {x y z : A} → x ≡ z → y ≡ z → cond b x y ≡ z
+pub either : {A : Type 0} (b : Bool) {x y z : A} → x ≡ z → y ≡ z → cond b x y ≡ z
 either true p q = p
 either false p q = q
 

@@ -1,45 +1,70 @@
 -- Seeding: what the loop keeps, which labels there are, and the element of a satisfiable real class.
 -- Assumes nothing.
 use mathlib.Core.Path.{_≡_, refl, sym, ap, _∙_}
-use mathlib.Core.Bool.{true, false}
-use mathlib.Core.List.{List, [], map, List·Memᴰ as Member}
+use mathlib.Core.Bool.{Bool, true, false, _||_}
+use mathlib.Core.List.{List, [], _∷_, map, flatMap, List·Memᴰ as Member}
 use mathlib.Core.Logic.{⊎-elim}
 use Prim.Native.Nat.{ℕ, zero, suc, _+_, _≤_, _<_}
 use native.Mathlib.Nat.{eq-or-lt-of-le, le-of-suc-le-suc}
 use native.Mathlib.Numerals.{add-one}
 use native.Mathlib.Omega.{arith}
-use lib.ListN.{length}
+use lib.ListN.{length, getD}
 use lib.Dec.{eqb}
-use borrow.Author.Tests.{eq-eqb, ne-eqb, lt-ltb, le-ltb}
+use borrow.Author.Tests.{lt-ltb, le-ltb}
 use Rattle.deck.specs.Deck.{Deck, Fact, classAt, classCount, has}
 use Rattle.deck.specs.Sound.{Sound}
 use Rattle.deck.proofs.BelowLaws.{any-stops}
 use Rattle.eval.specs.Lists.{any}
 use Rattle.eval.specs.Lent.{labelWidth, memberIn}
 use Rattle.eval.proofs.ListLaws.{position}
-use Rattle.model.specs.Label.{labelHas, labelOf}
+use Rattle.model.specs.Label.{labelHas, insertBit, insertAll, labelOf}
 use Rattle.model.specs.Rows.{put, flat, rowsOf, Wide, none}
 use Rattle.model.specs.Intern.{interned, Placed, Held}
 use Rattle.model.specs.Floor.{hasReal}
-use Rattle.model.specs.Seed.{names, isSeeded, rowLabel, seeds, lastLabel, HasRow}
+use Rattle.model.specs.Prints.{Chained}
+use Rattle.model.specs.Seed.{names, endsOf, Named, isSeeded, rowLabel, seeds, lastLabel, HasRow}
 use Rattle.model.proofs.LabelLaws.{length-label-of}
 use Rattle.model.proofs.MemberLaws.{has-label}
 use Rattle.model.proofs.FloorLaws.{floor-off, length-floored}
-use Rattle.model.proofs.InternLaws.{by-cond, Extends, extends-length, extends-at, member-label, interned-wide, interned-grows, held-none, held-intern, interned-keeps, interned-has}
+use Rattle.model.proofs.InternLaws.{by-cond, Extends, extends-length, extends-at, member-label, interned-wide, interned-grows, held-none, held-intern, held-rows, interned-keeps, interned-has}
 
 -- ---- which classes
+or-both : (a b c : Bool) → (a || (b || c)) ≡ ((a || b) || c)
+or-both true b c = refl
+or-both false b c = refl
+
 -- stands for a fact past the count
 abbrev pub noFact : Fact
 noFact = record { from = 0; role = 0; to = 0 }
 
-module _ (k : ℕ) (f : Fact) where
-  pub first-name : f .from ≡ k → true ≡ names k f
-  unfolding names
-  first-name e = rw (eq-eqb _ _ e)
+-- the classes of the facts as one list
+has-ends : (k : ℕ) (fs : List Fact) → has (flatMap endsOf fs) k ≡ any (map (names k) fs)
+unfolding has any names endsOf flatMap
+has-ends k [] = refl
+has-ends k (f ∷ fs) = rw (has-ends k fs) (or-both (eqb (f .from) k) (eqb (f .to) k) (any (map (names k) fs)))
 
-  pub second-name : (f .from ≡ k → ⊥) → eqb (f .to) k ≡ names k f
-  unfolding names
-  second-name n = rw (ne-eqb _ _ n)
+pub two-ends : (words : List ℕ) (f : Fact) → insertAll words (endsOf f) ≡ insertBit (insertBit words (f .from)) (f .to)
+unfolding insertAll endsOf
+two-ends words f = refl
+
+ends-below : (n : ℕ) (fs : List Fact) → ((k : ℕ) → k < length fs → (getD fs k noFact .from < n) × (getD fs k noFact .to < n))
+    → (i : ℕ) → i < length (flatMap endsOf fs) → getD (flatMap endsOf fs) i 0 < n
+unfolding endsOf flatMap
+ends-below n [] h i b = absurd (omega (arith, b))
+ends-below n (f ∷ fs) h zero b = h 0 (omega arith) .0
+ends-below n (f ∷ fs) h (suc zero) b = h 0 (omega arith) .1
+ends-below n (f ∷ fs) h (suc (suc i)) b = ends-below n fs (λ (k : ℕ) (u : k < length fs). h (suc k) (omega (arith, u))) i (omega (arith, b))
+
+pub named-facts : (D : Deck) → Sound D → classCount D ≤ 4096 → Named D (labelOf 64 (flatMap endsOf (D .facts)))
+named-facts D W m k r b =
+    has-label 64 (flatMap endsOf (D .facts)) k
+    (λ (i : ℕ) (u : i < length (flatMap endsOf (D .facts))).
+    omega (arith, m, ends-below (classCount D) (D .facts) (λ (j : ℕ) (t : j < length (D .facts)). (W .facts j t .from, W .facts j t .to)) i u))
+    ∙ has-ends k (D .facts)
+
+-- no class but real ones
+pub named-none : (D : Deck) (words : List ℕ) → classCount D ≤ D .real → Named D words
+named-none D words h k r b = absurd (omega (arith, h, r, b))
 
 module _ (D : Deck) (k : ℕ) where
   pub seeded-unsatisfiable : classAt D k .unsatisfiable ≡ true → false ≡ isSeeded D k
@@ -114,6 +139,21 @@ module _ (D : Deck) (floor : List ℕ) where
 
     pub held-few : (b : List ℕ) (n k : ℕ) → Held (labelWidth D) buf b n (seeds D floor k) → n ≤ k
     held-few b n k h = omega (arith, h .count, seeds-few k)
+
+  -- the table of the loop
+  module _ (buf b heads links : List ℕ) (n k : ℕ) (h : Held (labelWidth D) buf b n (seeds D floor k)) where
+    pub table-rows : Chained (seeds D floor k) heads links → Chained (rowsOf (labelWidth D) n b) heads links
+    table-rows c = rw (held-rows h) c
+
+    pub table-more : isSeeded D k ≡ true → Chained (interned (rowsOf (labelWidth D) n b) (rowLabel D floor k)) heads links → Chained (seeds D floor (k + 1)) heads links
+    table-more s c = rw (seeds-take k s) (rw (held-rows h) at c)
+
+  pub table-skip : (heads links : List ℕ) (k : ℕ) → isSeeded D k ≡ false → Chained (seeds D floor k) heads links → Chained (seeds D floor (k + 1)) heads links
+  table-skip heads links k s c = rw (seeds-skip k s) c
+
+  pub table-start : (heads links : List ℕ) → Chained [] heads links → Chained (seeds D floor 0) heads links
+  unfolding seeds
+  table-start heads links c = c
 
   -- ---- every seeded class has its label among the seeds
   pub all-seeded : (n k : ℕ) → k < n → isSeeded D k ≡ true → Member (rowLabel D floor k) (seeds D floor n)

@@ -1,6 +1,7 @@
 pub mod Label
 pub mod Rows
 pub mod Intern
+pub mod Prints
 pub mod Floor
 pub mod Seed
 pub mod Reasons
@@ -12,8 +13,10 @@ pub mod Closing
 pub mod Target
 pub mod Model
 pub mod Expand
+pub mod FactIndex
 pub mod Exists
 pub mod Rounds
+pub mod Triggers
 pub mod Phases
 pub mod Outcome
 pub mod Run

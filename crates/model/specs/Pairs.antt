@@ -1,6 +1,7 @@
 -- Pairs as numbers: "by from then to" is by size.
-use Prim.Native.Nat.{ℕ, _+_, _*_, _/_, _%_, _<_}
-use mathlib.Core.Bool.{Bool, cond, _&&_}
+use Prim.Native.Nat.{ℕ, _+_, _*_, _/_, _%_, _<_, _≤_}
+use mathlib.Core.Bool.{Bool, true, false, cond, _&&_}
+use mathlib.Core.Path.{_≡_}
 use mathlib.Core.List.{List, [], _∷_, List·Memᴰ as Member}
 use lib.Dec.{leb, ltb}
 use Rattle.deck.specs.Deck.{Deck}
@@ -34,3 +35,9 @@ first (x ∷ xs) = At x
 -- the nearer of `best` and k, where k is at or after `after` and is hit
 abbrev pub nearerOf : ℕ → ℕ → Bool → ℕ → ℕ
 nearerOf after k hit best = cond (leb after k && (ltb k best && hit)) k best
+
+-- b is the lowest number hit, from `after` on and below `end`, and `end` where there is none
+pub record Near (hit : ℕ → Bool) (after end b : ℕ) : Type 0 where
+  pub le : b ≤ end
+  pub none : (u : ℕ) → after ≤ u → u < b → hit u ≡ false
+  pub got : b < end → (after ≤ b) × (hit b ≡ true)

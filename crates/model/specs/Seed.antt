@@ -1,8 +1,8 @@
 -- Seeding (`FiniteModel::seed`): document 01, section 2.
-use Prim.Native.Nat.{ℕ, zero, suc, _<_}
+use Prim.Native.Nat.{ℕ, zero, suc, _<_, _≤_}
 use mathlib.Core.Path.{_≡_}
 use mathlib.Core.Bool.{Bool, false, cond, _||_}
-use mathlib.Core.List.{List, [], map}
+use mathlib.Core.List.{List, [], _∷_, map}
 use lib.ListN.{length, getD}
 use lib.Dec.{eqb, ltb}
 use Rattle.deck.specs.Deck.{Deck, Fact, classAt, classCount, has}
@@ -20,6 +20,14 @@ names k f = eqb (f .from) k || eqb (f .to) k
 -- "Satisfiable classes, real or of a fact"
 unfoldable pub isSeeded : Deck → ℕ → Bool
 isSeeded D k = cond (classAt D k .unsatisfiable) false (ltb k (D .real) || any (map (names k) (D .facts)))
+
+-- the classes of a fact
+unfoldable pub endsOf : Fact → List ℕ
+endsOf f = f .from ∷ f .to ∷ []
+
+-- words that have a class which is not real exactly where a fact has it
+abbrev pub Named : Deck → List ℕ → Type 0
+Named D words = (k : ℕ) → D .real ≤ k → k < classCount D → labelHas words k ≡ any (map (names k) (D .facts))
 
 -- "interned by row"
 unfoldable pub rowLabel : Deck → List ℕ → ℕ → List ℕ

@@ -96,7 +96,7 @@ fn any_atom(deck: &[u8], owner: ConceptId, list: Span) -> bool
 }
 
 // Is the concept a rule's antecedent?
-fn is_rule(deck: &[u8], concept: ConceptId) -> bool
+pub fn is_rule(deck: &[u8], concept: ConceptId) -> bool
     requires { ⌜ IsAccepted (now deck) ⌝ }
     requires { ⌜ concept .0 < conceptCount (deckOf (now deck)) ⌝ }
     ensures { λ r. ⌜ r ≡ isRule (deckOf (now (deck .entry))) (concept .0) ⌝ }

@@ -59,6 +59,7 @@ fn reach_body(
         held,
         role,
         from,
+        0,
     )
 }
 

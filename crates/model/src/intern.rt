@@ -21,7 +21,7 @@ pub struct Interned {
 }
 
 // Whether the words from `at` on are the label.
-fn same_label(labels: &[u64], at: usize, label: &[u64]) -> bool
+pub fn same_label(labels: &[u64], at: usize, label: &[u64]) -> bool
     requires { ⌜ at + length (now label) ≤ length (now labels) ⌝ }
     ensures { λ r. ⌜ r ≡ sameLabel (rowAt (length (now (label .entry))) (now (labels .entry)) at) (now (label .entry)) ⌝ }
 {
@@ -37,7 +37,7 @@ fn same_label(labels: &[u64], at: usize, label: &[u64]) -> bool
 }
 
 // Where row e of w words starts, in a table of n rows.
-fn row_start(e: usize, n: usize, w: usize, room: usize) -> usize
+pub fn row_start(e: usize, n: usize, w: usize, room: usize) -> usize
     requires { ⌜ (e < n) × (n * w ≤ room) ⌝ }
     ensures { λ r. ⌜ (r ≡ e * w) × (r + w ≤ room) ⌝ }
 {
@@ -61,7 +61,7 @@ fn find(labels: &[u64], elements: u32, label: &[u64]) -> u32
 }
 
 // The words from `at` on become the label.
-fn store(labels: &mut [u64], at: usize, label: &[u64])
+pub fn store(labels: &mut [u64], at: usize, label: &[u64])
     requires { ⌜ at + length (now label) ≤ length (now labels) ⌝ }
     ensures { λ _. ⌜ now (labels .exit) ≡ paste (now (labels .entry)) at (now (label .entry)) (length (now (label .entry))) ⌝ }
 {

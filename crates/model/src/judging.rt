@@ -9,13 +9,17 @@ ghost use lib.Seq.{sets};
 ghost use Rattle.deck.specs.Content.{deckOf};
 ghost use Rattle.deck.specs.Deck.{axiomCount};
 ghost use Rattle.eval.specs.Lists.{any};
+ghost use Rattle.eval.specs.Equipped.{Blank, Equipped};
 ghost use Rattle.eval.specs.Lent.{Fits, structureOf};
 ghost use Rattle.model.specs.Rows.{put};
 ghost use Rattle.model.specs.Outcome.{isFails, isUnresolved, outcomeBy};
 ghost use Rattle.model.specs.Run.{verdictsIn, wordsIn};
 use crate::outcome::Outcome;
 use deck::axioms::axiom_count;
+use deck::concepts::concept_count;
 use eval::axioms::check_axiom;
+use eval::equip::equip;
+use eval::equip::is_small;
 use eval::shape::Shape;
 use eval::verdict::Verdict;
 use eval::verdict::verdict_words;
@@ -81,6 +85,95 @@ fn store_words(verdicts: &mut [u32], at: usize, a: u32, b: u32, c: u32, d: u32)
 }
 
 // The words of each axiom's verdict, in order.
+fn judge_each(
+    deck: &[u8],
+    labels: &[u64],
+    edges: &[[u32; 3]],
+    shape: Shape,
+    index: &[u32],
+    memo: &mut [u16],
+    verdicts: &mut [u32],
+) -> Judged
+    requires { ⌜ Equipped (now deck) (now labels) (now edges) shape (now index) (now memo) ⌝ }
+    requires { ⌜ 4 * axiomCount (deckOf (now deck)) ≤ length (now verdicts) ⌝ }
+    ensures words { λ _. ⌜ now (verdicts .exit) ≡ put (now (verdicts .entry)) (wordsIn (verdictsIn (deckOf (now (deck .entry))) (structureOf (deckOf (now (deck .entry))) (now (labels .entry)) (now (edges .entry)) shape))) ⌝ }
+    ensures fails { λ r. ⌜ r .fails ≡ any (map isFails (verdictsIn (deckOf (now (deck .entry))) (structureOf (deckOf (now (deck .entry))) (now (labels .entry)) (now (edges .entry)) shape))) ⌝ }
+    ensures unresolved { λ r. ⌜ r .unresolved ≡ any (map isUnresolved (verdictsIn (deckOf (now (deck .entry))) (structureOf (deckOf (now (deck .entry))) (now (labels .entry)) (now (edges .entry)) shape))) ⌝ }
+{
+    let count = axiom_count(deck);
+    let mut judged = Judged {
+        fails: false,
+        unresolved: false,
+    };
+    let mut i: u32 = 0;
+    while i < count {
+        let verdict = check_axiom(deck, labels, edges, shape, index, memo, i);
+        let w = verdict_words(verdict);
+        store_words(verdicts, i as usize * 4, w[0], w[1], w[2], w[3]);
+        judged = add(judged, verdict);
+        i += 1;
+    }
+    judged
+}
+
+// The same, in a given room for the index and the table of judgements.
+fn judge_over(
+    deck: &[u8],
+    labels: &[u64],
+    edges: &[[u32; 3]],
+    shape: Shape,
+    index: &mut [u32],
+    memo: &mut [u16],
+    verdicts: &mut [u32],
+) -> Judged
+    requires { ⌜ Fits (now deck) (now labels) (now edges) shape ⌝ }
+    requires { ⌜ 4 * axiomCount (deckOf (now deck)) ≤ length (now verdicts) ⌝ }
+    requires { ⌜ Blank (now memo) ⌝ }
+    ensures words { λ _. ⌜ now (verdicts .exit) ≡ put (now (verdicts .entry)) (wordsIn (verdictsIn (deckOf (now (deck .entry))) (structureOf (deckOf (now (deck .entry))) (now (labels .entry)) (now (edges .entry)) shape))) ⌝ }
+    ensures fails { λ r. ⌜ r .fails ≡ any (map isFails (verdictsIn (deckOf (now (deck .entry))) (structureOf (deckOf (now (deck .entry))) (now (labels .entry)) (now (edges .entry)) shape))) ⌝ }
+    ensures unresolved { λ r. ⌜ r .unresolved ≡ any (map isUnresolved (verdictsIn (deckOf (now (deck .entry))) (structureOf (deckOf (now (deck .entry))) (now (labels .entry)) (now (edges .entry)) shape))) ⌝ }
+{
+    equip(deck, labels, edges, shape, index, memo);
+    judge_each(deck, labels, edges, shape, index, memo, verdicts)
+}
+
+fn judge_small(
+    deck: &[u8],
+    labels: &[u64],
+    edges: &[[u32; 3]],
+    shape: Shape,
+    verdicts: &mut [u32],
+) -> Judged
+    requires { ⌜ Fits (now deck) (now labels) (now edges) shape ⌝ }
+    requires { ⌜ 4 * axiomCount (deckOf (now deck)) ≤ length (now verdicts) ⌝ }
+    ensures words { λ _. ⌜ now (verdicts .exit) ≡ put (now (verdicts .entry)) (wordsIn (verdictsIn (deckOf (now (deck .entry))) (structureOf (deckOf (now (deck .entry))) (now (labels .entry)) (now (edges .entry)) shape))) ⌝ }
+    ensures fails { λ r. ⌜ r .fails ≡ any (map isFails (verdictsIn (deckOf (now (deck .entry))) (structureOf (deckOf (now (deck .entry))) (now (labels .entry)) (now (edges .entry)) shape))) ⌝ }
+    ensures unresolved { λ r. ⌜ r .unresolved ≡ any (map isUnresolved (verdictsIn (deckOf (now (deck .entry))) (structureOf (deckOf (now (deck .entry))) (now (labels .entry)) (now (edges .entry)) shape))) ⌝ }
+{
+    let mut index: [u32; 8192] = [0; 8192];
+    let mut memo: [u16; 4093] = [0; 4093];
+    judge_over(deck, labels, edges, shape, &mut index, &mut memo, verdicts)
+}
+
+fn judge_large(
+    deck: &[u8],
+    labels: &[u64],
+    edges: &[[u32; 3]],
+    shape: Shape,
+    verdicts: &mut [u32],
+) -> Judged
+    requires { ⌜ Fits (now deck) (now labels) (now edges) shape ⌝ }
+    requires { ⌜ 4 * axiomCount (deckOf (now deck)) ≤ length (now verdicts) ⌝ }
+    ensures words { λ _. ⌜ now (verdicts .exit) ≡ put (now (verdicts .entry)) (wordsIn (verdictsIn (deckOf (now (deck .entry))) (structureOf (deckOf (now (deck .entry))) (now (labels .entry)) (now (edges .entry)) shape))) ⌝ }
+    ensures fails { λ r. ⌜ r .fails ≡ any (map isFails (verdictsIn (deckOf (now (deck .entry))) (structureOf (deckOf (now (deck .entry))) (now (labels .entry)) (now (edges .entry)) shape))) ⌝ }
+    ensures unresolved { λ r. ⌜ r .unresolved ≡ any (map isUnresolved (verdictsIn (deckOf (now (deck .entry))) (structureOf (deckOf (now (deck .entry))) (now (labels .entry)) (now (edges .entry)) shape))) ⌝ }
+{
+    let mut index: [u32; 163843] = [0; 163843];
+    let mut memo: [u16; 262139] = [0; 262139];
+    judge_over(deck, labels, edges, shape, &mut index, &mut memo, verdicts)
+}
+
+// The same, in the room that the structure needs.
 pub fn judge_axioms(
     deck: &[u8],
     labels: &[u64],
@@ -94,20 +187,10 @@ pub fn judge_axioms(
     ensures fails { λ r. ⌜ r .fails ≡ any (map isFails (verdictsIn (deckOf (now (deck .entry))) (structureOf (deckOf (now (deck .entry))) (now (labels .entry)) (now (edges .entry)) shape))) ⌝ }
     ensures unresolved { λ r. ⌜ r .unresolved ≡ any (map isUnresolved (verdictsIn (deckOf (now (deck .entry))) (structureOf (deckOf (now (deck .entry))) (now (labels .entry)) (now (edges .entry)) shape))) ⌝ }
 {
-    let count = axiom_count(deck);
-    let mut judged = Judged {
-        fails: false,
-        unresolved: false,
-    };
-    let mut i: u32 = 0;
-    while i < count {
-        let verdict = check_axiom(deck, labels, edges, shape, i);
-        let w = verdict_words(verdict);
-        store_words(verdicts, i as usize * 4, w[0], w[1], w[2], w[3]);
-        judged = add(judged, verdict);
-        i += 1;
+    if is_small(shape, concept_count(deck)) {
+        return judge_small(deck, labels, edges, shape, verdicts);
     }
-    judged
+    judge_large(deck, labels, edges, shape, verdicts)
 }
 
 // Failed if an axiom fails, else open if a reason or an open axiom exists, else confirmed.

@@ -4,6 +4,7 @@ ghost use mathlib.Core.Bool.{false};
 ghost use Prim.Native.Nat.{_<_, _≤_};
 ghost use lib.ListN.{length, set};
 ghost use Rattle.eval.specs.Edges.{rowOf, edgesOf, isEdge, edgeIn};
+ghost use Rattle.model.specs.FactIndex.{Tail};
 ghost use Rattle.model.specs.Push.{Left, Room, added, pushEdge, start};
 use crate::reasons::Reason;
 use crate::reasons::note;
@@ -34,12 +35,13 @@ fn same_edge(a: Edge, b: Edge) -> bool
     false
 }
 
-// Does e stand in its role's own bucket, among the first `count` edges?
-fn is_known(edges: &[[u32; 3]], count: u32, e: Edge) -> bool
+// Does e stand in its role's own bucket, among the first `count` edges? Those below `since` leave other elements.
+fn is_known(edges: &[[u32; 3]], count: u32, e: Edge, since: u32) -> bool
     requires { ⌜ count ≤ length (now edges) ⌝ }
+    requires { ⌜ Tail (now edges) count since (e .from .0) ⌝ }
     ensures { λ b. ⌜ b ≡ edgeIn (edgesOf (now (edges .entry)) count) (e .role .0) (e .from .0) (e .to .0) ⌝ }
 {
-    let mut i = 0;
+    let mut i = since as usize;
     while i < count as usize {
         if same_edge(edge_at(edges, i), e) {
             return true;
@@ -72,11 +74,19 @@ pub fn add_edge(limit: u32, edges: &mut [[u32; 3]], log: &mut [u32], t: Tally, e
 }
 
 // Adds e unless it is known.
-pub fn push_edge(limit: u32, edges: &mut [[u32; 3]], log: &mut [u32], t: Tally, e: Edge) -> Step
+pub fn push_edge(
+    limit: u32,
+    edges: &mut [[u32; 3]],
+    log: &mut [u32],
+    t: Tally,
+    e: Edge,
+    since: u32,
+) -> Step
     requires { ⌜ Room limit (now edges) (t .edges) ⌝ }
+    requires { ⌜ Tail (now edges) (t .edges) since (e .from .0) ⌝ }
     ensures { λ r. ⌜ Left limit (now (edges .entry)) (now (log .entry)) t (now (edges .exit)) (now (log .exit)) r (pushEdge limit e (start (now (edges .entry)) (now (log .entry)) t)) ⌝ }
 {
-    if is_known(edges, t.edges, e) {
+    if is_known(edges, t.edges, e, since) {
         return Step::quiet(t);
     }
     add_edge(limit, edges, log, t, e)

@@ -4,6 +4,7 @@ ghost use Rattle.deck.specs.Content.{deckOf};
 ghost use Rattle.eval.specs.Lent.{labelWidth};
 ghost use Rattle.model.specs.Rows.{rowsOf};
 ghost use Rattle.model.specs.Intern.{indexOf};
+ghost use Rattle.model.specs.FactIndex.{Tail};
 ghost use Rattle.model.specs.Floor.{floored};
 ghost use Rattle.model.specs.Model as spec;
 ghost use Rattle.model.specs.Model.{lent, begun, Prepared, Built};
@@ -24,7 +25,7 @@ pub struct Arrival {
     pub element: Element,
 }
 
-// The element of the label in the making, and the edge of the role to it; the element bound is tested in between.
+// The element of the label in the making, and the edge of the role to it; the element bound is tested in between. The edges below `since` leave other elements.
 pub fn reach(
     deck: &[u8],
     bounds: Bounds,
@@ -36,8 +37,10 @@ pub fn reach(
     t: Tally,
     role: RoleId,
     from: Element,
+    since: u32,
 ) -> Arrival
     requires { ⌜ Prepared (now deck) bounds (lent (now labels) (now edges) (now log)) t (now floor) (now label) ⌝ }
+    requires { ⌜ Tail (now edges) (t .edges) since (from .0) ⌝ }
     ensures built { λ a. ⌜ Built (deckOf (now (deck .entry))) bounds (lent (now (labels .entry)) (now (edges .entry)) (now (log .entry))) t (lent (now (labels .exit)) (now (edges .exit)) (now (log .exit))) (now (label .exit)) (a .step)
         (spec.reach bounds (role .0) (from .0) (floored (deckOf (now (deck .entry))) (now (floor .entry)) (now (label .entry))) (begun (deckOf (now (deck .entry))) (lent (now (labels .entry)) (now (edges .entry)) (now (log .entry))) t)) ⌝ }
     ensures place { λ a. ⌜ a .element .0 ≡ indexOf (rowsOf (labelWidth (deckOf (now (deck .entry)))) (t .elements) (now (labels .entry))) (floored (deckOf (now (deck .entry))) (now (floor .entry)) (now (label .entry))) ⌝ }
@@ -59,6 +62,6 @@ pub fn reach(
         from,
         to: element,
     };
-    let step = push_edge(bounds.max_edges, edges, log, held, e);
+    let step = push_edge(bounds.max_edges, edges, log, held, e, since);
     Arrival { step, element }
 }

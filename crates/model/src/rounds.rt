@@ -1,13 +1,14 @@
 // Rounds of rules over the elements, until a round adds no element.
 ghost use mathlib.Core.Path.{_≡_};
 ghost use mathlib.Core.Bool.{true};
-ghost use Prim.Native.Nat.{_-_, _<_};
+ghost use Prim.Native.Nat.{_-_, _<_, _≤_};
 ghost use Rattle.deck.specs.Content.{deckOf};
 ghost use Rattle.deck.specs.Deck.{Axiom, conceptCount, axiomAt, axiomCount};
 ghost use Rattle.deck.specs.Reads.{listOf, ListFits};
 ghost use Rattle.model.specs.Reasons.{boundTripped, noted, counted};
 ghost use Rattle.model.specs.Rounds as spec;
 ghost use Rattle.model.specs.Model.{lent, begun, Prepared, Built};
+ghost use Rattle.model.specs.Triggers.{Triggers};
 use crate::antecedent::fires;
 use crate::bounds::Bounds;
 use crate::exists::materialise_exists;
@@ -15,6 +16,10 @@ use crate::reasons::Reason;
 use crate::reasons::note;
 use crate::tally::Step;
 use crate::tally::Tally;
+use crate::triggers::may_add;
+use crate::triggers::next_axiom;
+use crate::triggers::read_triggers;
+use crate::triggers::row_of;
 use deck::axioms::axiom_at;
 use deck::axioms::axiom_count;
 use deck::numbers::ConceptId;
@@ -49,7 +54,7 @@ fn fire(
     Step::quiet(t)
 }
 
-// A pair of members of EquivalentClasses, where their concept numbers differ.
+// A pair of members of EquivalentClasses, where their concept numbers differ and the second may add something.
 fn fire_pair(
     deck: &[u8],
     bounds: Bounds,
@@ -73,7 +78,10 @@ fn fire_pair(
     if a.0 == b.0 {
         return Step::quiet(t);
     }
-    fire(deck, bounds, floor, label, labels, edges, log, t, a, b, e)
+    if may_add(deck, b) {
+        return fire(deck, bounds, floor, label, labels, edges, log, t, a, b, e);
+    }
+    Step::quiet(t)
 }
 
 // From one member to each.
@@ -124,6 +132,45 @@ fn fire_from(
     Step::quiet(held)
 }
 
+// From one member to each, where it fires at all.
+fn fire_member(
+    deck: &[u8],
+    bounds: Bounds,
+    floor: &[u64],
+    label: &mut [u64],
+    labels: &mut [u64],
+    edges: &mut [[u32; 3]],
+    log: &mut [u32],
+    t: Tally,
+    list: Span,
+    a: ConceptId,
+    e: Element,
+) -> Step
+    requires { ⌜ Prepared (now deck) bounds (lent (now labels) (now edges) (now log)) t (now floor) (now label) ⌝ }
+    requires { ⌜ ListFits (now deck) (conceptCount (deckOf (now deck))) list ⌝ }
+    requires { ⌜ a .0 < conceptCount (deckOf (now deck)) ⌝ }
+    requires { ⌜ e .0 < t .elements ⌝ }
+    ensures { λ r. ⌜ Built (deckOf (now (deck .entry))) bounds (lent (now (labels .entry)) (now (edges .entry)) (now (log .entry))) t (lent (now (labels .exit)) (now (edges .exit)) (now (log .exit))) (now (label .exit)) r
+        (spec.fireFrom (deckOf (now (deck .entry))) (now (floor .entry)) bounds (e .0) (listOf (now (deck .entry)) list) (a .0) (begun (deckOf (now (deck .entry))) (lent (now (labels .entry)) (now (edges .entry)) (now (log .entry))) t)) ⌝ }
+{
+    if fires(deck, labels, t.elements, e, a) {
+        return fire_from(
+            deck,
+            bounds,
+            floor,
+            label,
+            labels,
+            edges,
+            log,
+            t,
+            list,
+            a,
+            e,
+        );
+    }
+    Step::quiet(t)
+}
+
 // From each member to each.
 fn fire_equivalent(
     deck: &[u8],
@@ -147,7 +194,7 @@ fn fire_equivalent(
     let mut i = 0;
     let mut held = t;
     while i < count {
-        let s = fire_from(
+        let s = fire_member(
             deck,
             bounds,
             floor,
@@ -223,11 +270,12 @@ fn fire_axiom(
     }
 }
 
-// All rules at element e.
+// All rules at element e: from one axiom that may add something to the next.
 fn visit(
     deck: &[u8],
     bounds: Bounds,
     floor: &[u64],
+    triggers: &[u32],
     label: &mut [u64],
     labels: &mut [u64],
     edges: &mut [[u32; 3]],
@@ -237,11 +285,13 @@ fn visit(
 ) -> Step
     requires { ⌜ Prepared (now deck) bounds (lent (now labels) (now edges) (now log)) t (now floor) (now label) ⌝ }
     requires { ⌜ e .0 < t .elements ⌝ }
+    requires { ⌜ Triggers (deckOf (now deck)) (now triggers) 0 ⌝ }
     ensures { λ r. ⌜ Built (deckOf (now (deck .entry))) bounds (lent (now (labels .entry)) (now (edges .entry)) (now (log .entry))) t (lent (now (labels .exit)) (now (edges .exit)) (now (log .exit))) (now (label .exit)) r
         (spec.visit (deckOf (now (deck .entry))) (now (floor .entry)) bounds (e .0) (begun (deckOf (now (deck .entry))) (lent (now (labels .entry)) (now (edges .entry)) (now (log .entry))) t)) ⌝ }
 {
     let count = axiom_count(deck);
-    let mut i: u32 = 0;
+    let row = row_of(deck, labels.len(), t.elements, e);
+    let mut i = next_axiom(labels, row, triggers, count, 0);
     let mut held = t;
     while i < count {
         let s = fire_axiom(deck, bounds, floor, label, labels, edges, log, held, i, e);
@@ -250,7 +300,7 @@ fn visit(
             return s;
         }
         held = s.tally;
-        i += 1;
+        i = next_axiom(labels, row, triggers, count, i + 1);
     }
     Step::quiet(held)
 }
@@ -260,6 +310,7 @@ fn round(
     deck: &[u8],
     bounds: Bounds,
     floor: &[u64],
+    triggers: &[u32],
     label: &mut [u64],
     labels: &mut [u64],
     edges: &mut [[u32; 3]],
@@ -267,6 +318,7 @@ fn round(
     t: Tally,
 ) -> Step
     requires { ⌜ Prepared (now deck) bounds (lent (now labels) (now edges) (now log)) t (now floor) (now label) ⌝ }
+    requires { ⌜ Triggers (deckOf (now deck)) (now triggers) 0 ⌝ }
     ensures { λ r. ⌜ Built (deckOf (now (deck .entry))) bounds (lent (now (labels .entry)) (now (edges .entry)) (now (log .entry))) t (lent (now (labels .exit)) (now (edges .exit)) (now (log .exit))) (now (label .exit)) r
         (spec.round (deckOf (now (deck .entry))) (now (floor .entry)) bounds (begun (deckOf (now (deck .entry))) (lent (now (labels .entry)) (now (edges .entry)) (now (log .entry))) t)) ⌝ }
 {
@@ -275,7 +327,18 @@ fn round(
     let mut held = t;
     while i < count {
         let e = Element(i);
-        let s = visit(deck, bounds, floor, label, labels, edges, log, held, e);
+        let s = visit(
+            deck,
+            bounds,
+            floor,
+            triggers,
+            label,
+            labels,
+            edges,
+            log,
+            held,
+            e,
+        );
         let tripped = s.tripped;
         if tripped {
             return s;
@@ -305,6 +368,95 @@ fn trip_rounds(log: &mut [u32], limit: u32, t: Tally) -> Step
     Step::tripping(t.with_reasons(reasons))
 }
 
+// The rounds, with the table of triggers.
+fn rounds_by(
+    deck: &[u8],
+    bounds: Bounds,
+    floor: &[u64],
+    triggers: &[u32],
+    label: &mut [u64],
+    labels: &mut [u64],
+    edges: &mut [[u32; 3]],
+    log: &mut [u32],
+    t: Tally,
+) -> Step
+    requires { ⌜ Prepared (now deck) bounds (lent (now labels) (now edges) (now log)) t (now floor) (now label) ⌝ }
+    requires { ⌜ Triggers (deckOf (now deck)) (now triggers) 0 ⌝ }
+    ensures { λ r. ⌜ Built (deckOf (now (deck .entry))) bounds (lent (now (labels .entry)) (now (edges .entry)) (now (log .entry))) t (lent (now (labels .exit)) (now (edges .exit)) (now (log .exit))) (now (label .exit)) r
+        (spec.expandFromAxioms (deckOf (now (deck .entry))) (now (floor .entry)) bounds (begun (deckOf (now (deck .entry))) (lent (now (labels .entry)) (now (edges .entry)) (now (log .entry))) t)) ⌝ }
+{
+    let mut left = later_rounds(bounds.max_rounds);
+    let mut held = t;
+    loop {
+        let s = round(
+            deck,
+            bounds,
+            floor,
+            triggers,
+            label,
+            labels,
+            edges,
+            log,
+            held,
+        );
+        let tripped = s.tripped;
+        if tripped {
+            return s;
+        }
+        let grown = s.tally;
+        if grown.elements == held.elements {
+            return s;
+        }
+        if left == 0 {
+            return trip_rounds(log, bounds.max_rounds, grown);
+        }
+        held = grown;
+        left -= 1;
+    }
+}
+
+// Rounds of at most 512 axioms: a table that costs little to clear.
+fn rounds_of_few(
+    deck: &[u8],
+    bounds: Bounds,
+    floor: &[u64],
+    label: &mut [u64],
+    labels: &mut [u64],
+    edges: &mut [[u32; 3]],
+    log: &mut [u32],
+    t: Tally,
+) -> Step
+    requires { ⌜ Prepared (now deck) bounds (lent (now labels) (now edges) (now log)) t (now floor) (now label) ⌝ }
+    requires { ⌜ axiomCount (deckOf (now deck)) ≤ 512 ⌝ }
+    ensures { λ r. ⌜ Built (deckOf (now (deck .entry))) bounds (lent (now (labels .entry)) (now (edges .entry)) (now (log .entry))) t (lent (now (labels .exit)) (now (edges .exit)) (now (log .exit))) (now (label .exit)) r
+        (spec.expandFromAxioms (deckOf (now (deck .entry))) (now (floor .entry)) bounds (begun (deckOf (now (deck .entry))) (lent (now (labels .entry)) (now (edges .entry)) (now (log .entry))) t)) ⌝ }
+{
+    let mut triggers: [u32; 512] = [0; 512];
+    read_triggers(deck, &mut triggers);
+    rounds_by(deck, bounds, floor, &triggers, label, labels, edges, log, t)
+}
+
+// Rounds of any number of axioms.
+fn rounds_of_many(
+    deck: &[u8],
+    bounds: Bounds,
+    floor: &[u64],
+    label: &mut [u64],
+    labels: &mut [u64],
+    edges: &mut [[u32; 3]],
+    log: &mut [u32],
+    t: Tally,
+) -> Step
+    requires { ⌜ Prepared (now deck) bounds (lent (now labels) (now edges) (now log)) t (now floor) (now label) ⌝ }
+    requires { ⌜ axiomCount (deckOf (now deck)) ≤ 16384 ⌝ }
+    ensures { λ r. ⌜ Built (deckOf (now (deck .entry))) bounds (lent (now (labels .entry)) (now (edges .entry)) (now (log .entry))) t (lent (now (labels .exit)) (now (edges .exit)) (now (log .exit))) (now (label .exit)) r
+        (spec.expandFromAxioms (deckOf (now (deck .entry))) (now (floor .entry)) bounds (begun (deckOf (now (deck .entry))) (lent (now (labels .entry)) (now (edges .entry)) (now (log .entry))) t)) ⌝ }
+{
+    let mut triggers: [u32; 16384] = [0; 16384];
+    read_triggers(deck, &mut triggers);
+    rounds_by(deck, bounds, floor, &triggers, label, labels, edges, log, t)
+}
+
 // Rounds until one adds no element or trips a bound.
 pub fn expand_from_axioms(
     deck: &[u8],
@@ -320,22 +472,8 @@ pub fn expand_from_axioms(
     ensures { λ r. ⌜ Built (deckOf (now (deck .entry))) bounds (lent (now (labels .entry)) (now (edges .entry)) (now (log .entry))) t (lent (now (labels .exit)) (now (edges .exit)) (now (log .exit))) (now (label .exit)) r
         (spec.expandFromAxioms (deckOf (now (deck .entry))) (now (floor .entry)) bounds (begun (deckOf (now (deck .entry))) (lent (now (labels .entry)) (now (edges .entry)) (now (log .entry))) t)) ⌝ }
 {
-    let mut left = later_rounds(bounds.max_rounds);
-    let mut held = t;
-    loop {
-        let s = round(deck, bounds, floor, label, labels, edges, log, held);
-        let tripped = s.tripped;
-        if tripped {
-            return s;
-        }
-        let grown = s.tally;
-        if grown.elements == held.elements {
-            return s;
-        }
-        if left == 0 {
-            return trip_rounds(log, bounds.max_rounds, grown);
-        }
-        held = grown;
-        left -= 1;
+    if axiom_count(deck) <= 512 {
+        return rounds_of_few(deck, bounds, floor, label, labels, edges, log, t);
     }
+    rounds_of_many(deck, bounds, floor, label, labels, edges, log, t)
 }

@@ -1,4 +1,5 @@
 use borrow.Author.Needs.{needs}
+use Rattle.model.proofs.TailLaws.{tail-none}
 use Rattle.model.specs.Intern.{indexOf}
 use mathlib.Core.Path.{ap, _∙_}
 use Rattle.model.proofs.ExistsLaws.{body-ready, body-label, body-leaves}
@@ -15,7 +16,7 @@ reach-requires : tie.Need-reach-requires
 reach-requires c κs =
     let P = c .before .before .before .before .before .before .before .before .before .before .before .before .before .before .before .before .before .pre .0 in
     let S = c .before .before .before .before .before .before .before .before .before .body-label in
-    rw (c .before .before .before .before .with-reasons .ensures) (body-ready P _ _ (S .ensures) (S .kept .1 .1 .1 .0 ∙ P .label-wide) (S .kept .1 .1 .1 .1 .0))
+    (rw (c .before .before .before .before .with-reasons .ensures) (body-ready P _ _ (S .ensures) (S .kept .1 .1 .1 .0 ∙ P .label-wide) (S .kept .1 .1 .1 .1 .0)), tail-none _ _ _)
 
 same-length : tie.Need-same-length
 same-length c = c .before .before .before .before .before .before .before .reach .kept .1 .1 .1 .0 ∙ c .before .before .before .before .before .before .before .before .before .before .before .before .before .before .before .before .before .body-label .kept .1 .1 .1 .0

@@ -1,64 +1,45 @@
 use native.Mathlib.Omega.{arith}
-use Prim.Native.Nat.{_-_, _≤_}
-use mathlib.Core.Path.{_≡_}
-use Rattle.deck.specs.Content.{deckOf}
-use Rattle.eval.specs.Edges.{edgesOf}
-use Rattle.model.specs.Pairs.{linkKey}
-use Rattle.model.proofs.NextLaws.{Near, near-start, near-step, near-first, near-nothing, key-start, key-next}
+use borrow.Author.Needs.{needs}
 use Rattle.model.proofs.pairs.next_pair.Statement.{statement}
 use Rattle.model.proofs.pairs.next_pair.Tie as tie
-use Rattle.model.proofs.pairs.next_pair.Reads as reads
-use Rattle.model.proofs.pairs.next_pair.Lts as lts
-use Rattle.eval.proofs.edges.edge_at.Reads as edge-at-reads
-use Rattle.model.proofs.pairs.nearer.Reads as nearer-reads
 
-abbrev Inv-loop : tie.InvT-loop
-Inv-loop deck edges count r after end best₀ i₀ best i = (i ≤ count) × Near (linkKey (deckOf deck) (edgesOf edges i) (r .0)) after end best
+scan-pair-requires : tie.Need-scan-pair-requires
+scan-pair-requires c κs = let z = c .before .before .before in (z .pre .0, (z .pre .1 .0, (omega (arith, z .pre .1 .1 .0 .0, z .pre .1 .1 .0 .1), (z .pre .1 .1 .1 .0, z .pre .1 .1 .1 .1 .1))))
 
-abbrev μ-loop : tie.MeasureT-loop
-μ-loop deck edges count r after end best₀ i₀ best i = count - i
+returns : tie.Need-returns
+returns c = search needs
 
-loop-holds : tie.Need-loop-holds Inv-loop μ-loop
-loop-holds c = (omega arith, near-start _ _ _ (λ u. key-start _ _ _ _))
+scan-pair-requires-2 : tie.Need-scan-pair-requires-2
+scan-pair-requires-2 c κs = let z = c .before .before .before .before in (z .pre .0, (z .pre .1 .0, (omega (arith, z .pre .1 .1 .0 .0, z .pre .1 .1 .0 .1), (z .pre .1 .1 .1 .0, z .pre .1 .1 .1 .1 .1))))
 
-edge-at-requires : tie.Need-edge-at-requires Inv-loop μ-loop
-edge-at-requires c κs = omega (arith, c .before .before .before .pre .1 .1 .0)
+returns-2 : tie.Need-returns-2
+returns-2 c = search needs
 
-nearer-requires : tie.Need-nearer-requires Inv-loop μ-loop
-nearer-requires c κs = (c .before .before .before .before .pre .0, c .before .before .before .before .pre .1 .0)
+mul-if3 : tie.Need-mul-if3
+mul-if3 c = search needs
 
-add-i : tie.Need-add-i Inv-loop μ-loop
-add-i c = omega arith
+scan-pair-requires-3 : tie.Need-scan-pair-requires-3
+scan-pair-requires-3 c κs = let z = c .before .before .before .before .before in (z .pre .0, (z .pre .1 .0, (omega (arith, z .pre .1 .1 .0 .0, z .pre .1 .1 .0 .1), (z .pre .1 .1 .1 .0, z .pre .1 .1 .1 .1 .1))))
 
-loop-less : tie.Need-loop-less Inv-loop μ-loop
-loop-less c = omega arith
+returns-3 : tie.Need-returns-3
+returns-3 c = search needs
 
-loop-again : tie.Need-loop-again Inv-loop μ-loop
-loop-again c =
-    let z = c .before .before .before .before .before in
-    (omega arith, rw (c .nearer .ensures, c .before .edge-at .ensures) (near-step _ _ _ _ _ _ _ (key-next _ _ (z .args .count) _ (z .pre .1 .1 .0) (z .pre .1 .1 .1 .0) (c .before .before .before .loop .i) (omega arith)) (c .before .before .before .loop .inv .1)))
+walk-pair-requires : tie.Need-walk-pair-requires
+walk-pair-requires c κs = let z = c .before .before .before .before .before in (z .pre .0, (z .pre .1 .0, (z .pre .1 .1 .0, (z .pre .1 .1 .1 .0, (z .pre .1 .1 .1 .1 .0, (z .pre .1 .1 .1 .1 .1, omega arith))))))
 
-returns : tie.Need-returns Inv-loop μ-loop
-returns c =
-    let e : c .before .before .loop .i ≡ c .before .before .before .before .args .count = omega arith in
-    rw (← e) (near-first _ _ _ _ (c .before .before .loop .inv .1) (c .if1 .taken))
-
-returns-2 : tie.Need-returns-2 Inv-loop μ-loop
-returns-2 c =
-    let e : c .before .before .loop .i ≡ c .before .before .before .before .args .count = omega arith in
-    rw (← e) (near-nothing _ _ _ _ (c .before .before .before .before .pre .1 .1 .1 .1) (c .before .before .loop .inv .1) (c .if1 .left))
+returns-4 : tie.Need-returns-4
+returns-4 c = search needs
 
 pub next-pair-spec : {M : Type 1} → statement M
 next-pair-spec =
     tie.close
     (tie.spec
-    Inv-loop
-    μ-loop
-    loop-holds
-    edge-at-requires
-    nearer-requires
-    add-i
-    loop-less
-    loop-again
+    scan-pair-requires
     returns
-    returns-2)
+    scan-pair-requires-2
+    returns-2
+    mul-if3
+    scan-pair-requires-3
+    returns-3
+    walk-pair-requires
+    returns-4)

@@ -13,7 +13,7 @@ use Rattle.model.proofs.push.push_edge.Reads as push-edge-reads
 use Rattle.model.proofs.reasons.note.Reads as note-reads
 
 intern-requires : tie.Need-intern-requires
-intern-requires c κs = let P = c .before .before .before .before .before .before .before .pre in (P .accepted, (P .floor-wide, (P .label-wide, (next-fits P, omega (arith, P .few, P .most)))))
+intern-requires c κs = let P = c .before .before .before .before .before .before .before .pre .0 in (P .accepted, (P .floor-wide, (P .label-wide, (next-fits P, omega (arith, P .few, P .most)))))
 
 with-elements-requires : tie.Need-with-elements-requires
 with-elements-requires c κs = search needs
@@ -41,13 +41,13 @@ same-length-3 c = search needs
 
 returns : tie.Need-returns
 returns c =
-    let P = c .before .before .before .before .before .before .before .before .before .before .before .before .before .before .before .before .before .before .before .before .before .before .before .pre in
+    let P = c .before .before .before .before .before .before .before .before .before .before .before .before .before .before .before .before .before .before .before .before .before .before .before .pre .0 in
     let I = c .before .before .before .before .before .before .before .before .before .before .before .before .before .before .before .intern .ensures in
     let w = length-floored _ _ _ ∙ P .label-wide in
     rw (c .tripping .ensures, c .before .with-reasons .ensures, c .before .before .before .before .before .before .before .before .before .with-elements .ensures) (reach-full P w (I .0) (ap length (I .1) ∙ w) _ _ (c .before .before .before .before .before .before .before .if1 .taken) (rw (c .before .before .before .before .before .before .bound-tripped .ensures) at (c .before .before .before .before .note .ensures .0)) (c .before .before .before .before .note .ensures .1), I .0 .place)
 
 push-edge-requires : tie.Need-push-edge-requires
-push-edge-requires c κs = rw (c .before .before .before .before .with-elements .ensures) (c .before .before .before .before .before .before .before .before .before .before .before .before .before .before .before .before .before .before .pre .space)
+push-edge-requires c κs = (rw (c .before .before .before .before .with-elements .ensures) (c .before .before .before .before .before .before .before .before .before .before .before .before .before .before .before .before .before .before .pre .0 .space), rw (c .before .before .before .before .with-elements .ensures) (c .before .before .before .before .before .before .before .before .before .before .before .before .before .before .before .before .before .before .pre .1))
 
 same-length-4 : tie.Need-same-length-4
 same-length-4 c = search needs
@@ -63,7 +63,7 @@ same-length-7 c = search needs
 
 returns-2 : tie.Need-returns-2
 returns-2 c =
-    let P = c .before .before .before .before .before .before .before .before .before .before .before .before .before .before .before .before .before .before .before .before .before .before .pre in
+    let P = c .before .before .before .before .before .before .before .before .before .before .before .before .before .before .before .before .before .before .before .before .before .before .pre .0 in
     let I = c .before .before .before .before .before .before .before .before .before .before .before .before .before .before .intern .ensures in
     let w = length-floored _ _ _ ∙ P .label-wide in
     (reach-link P w (I .0) (ap length (I .1) ∙ w) _ _ (omega (arith, c .before .before .before .before .before .before .if1 .left)) (rw (c .before .before .before .before .before .before .before .before .with-elements .ensures) at (c .before .before .before .push-edge .ensures)), I .0 .place)

@@ -27,8 +27,8 @@ loop-holds c = (omega arith, model-start _ _ (c .before .before .before .before 
 item-requires : tie.Need-item-requires Inv-loop μ-loop
 item-requires c κs = let z = c .before .before .before .before .before .before .before .before .before .before .before in (z .pre .0 .accepted, (z .pre .1 .0 .within, omega arith))
 
-fire-from-requires : tie.Need-fire-from-requires Inv-loop μ-loop
-fire-from-requires c κs =
+fire-member-requires : tie.Need-fire-member-requires Inv-loop μ-loop
+fire-member-requires c κs =
     let turn = c .before .before .before .before .before .before .loop in
     let z = c .before .before .before .before .before .before .before .before .before .before .before .before in
     let G = turn .inv .1 in
@@ -36,16 +36,16 @@ fire-from-requires c κs =
     (prepared-after (z .pre .0) (G .built) refl, (z .pre .1 .0, (omega (arith, o, c .item .ensures), omega (arith, G .built .more, z .pre .1 .1))))
 
 same-length : tie.Need-same-length Inv-loop μ-loop
-same-length c = c .before .before .before .before .before .before .before .before .fire-from .ensures .wide ∙ sym (c .before .before .before .before .before .before .before .before .before .before .before .before .before .before .before .before .before .before .before .before .before .pre .0 .label-wide)
+same-length c = c .before .before .before .before .before .before .before .before .fire-member .ensures .wide ∙ sym (c .before .before .before .before .before .before .before .before .before .before .before .before .before .before .before .before .before .before .before .before .before .pre .0 .label-wide)
 
 same-length-2 : tie.Need-same-length-2 Inv-loop μ-loop
-same-length-2 c = labels-size (c .before .before .before .before .before .before .before .before .before .before .before .before .before .before .before .before .before .before .before .before .before .pre .0) (built-trans (c .before .before .before .before .before .before .before .before .before .before .before .before .before .before .before .loop .inv .1 .built) (c .before .before .before .before .before .before .before .before .fire-from .ensures))
+same-length-2 c = labels-size (c .before .before .before .before .before .before .before .before .before .before .before .before .before .before .before .before .before .before .before .before .before .pre .0) (built-trans (c .before .before .before .before .before .before .before .before .before .before .before .before .before .before .before .loop .inv .1 .built) (c .before .before .before .before .before .before .before .before .fire-member .ensures))
 
 same-length-3 : tie.Need-same-length-3 Inv-loop μ-loop
-same-length-3 c = c .before .before .before .before .before .before .before .before .fire-from .ensures .left .size ∙ c .before .before .before .before .before .before .before .before .before .before .before .before .before .before .before .loop .inv .1 .built .left .size
+same-length-3 c = c .before .before .before .before .before .before .before .before .fire-member .ensures .left .size ∙ c .before .before .before .before .before .before .before .before .before .before .before .before .before .before .before .loop .inv .1 .built .left .size
 
 same-length-4 : tie.Need-same-length-4 Inv-loop μ-loop
-same-length-4 c = c .before .before .before .before .before .before .before .before .fire-from .ensures .left .log-size ∙ c .before .before .before .before .before .before .before .before .before .before .before .before .before .before .before .loop .inv .1 .built .left .log-size
+same-length-4 c = c .before .before .before .before .before .before .before .before .fire-member .ensures .left .log-size ∙ c .before .before .before .before .before .before .before .before .before .before .before .before .before .before .before .loop .inv .1 .built .left .log-size
 
 returns : tie.Need-returns Inv-loop μ-loop
 unfolding fireAxiom
@@ -53,7 +53,7 @@ returns c =
     let z = c .before .before .before .before .before .before .before .before .before .before .before .before .before .before .before .before .before .before .before .before .before in
     let turn = c .before .before .before .before .before .before .before .before .before .before .before .before .before .before .before .loop in
     let h = c .before .before .before .before .before .before .before .before .before .before .before .before .before .before .loop-test .taken in
-    model-stop (turn .inv .1) (list-step 0 (listOf (now (z .args .deck)) (z .args .list)) (turn .i) (omega (arith, h, list-length (now (z .args .deck)) (z .args .list .start) (z .args .list .count)))) (rw (c .before .before .before .before .before .before .before .before .before .item .ensures) at (c .before .before .before .before .before .before .before .before .fire-from .ensures)) (λ x u w. from-stuck _ _ _ _ u w _ x) (c .if1 .taken)
+    model-stop (turn .inv .1) (list-step 0 (listOf (now (z .args .deck)) (z .args .list)) (turn .i) (omega (arith, h, list-length (now (z .args .deck)) (z .args .list .start) (z .args .list .count)))) (rw (c .before .before .before .before .before .before .before .before .before .item .ensures) at (c .before .before .before .before .before .before .before .before .fire-member .ensures)) (λ x u w. from-stuck _ _ _ _ u w _ x) (c .if1 .taken)
 
 add-i : tie.Need-add-i Inv-loop μ-loop
 add-i c = omega (arith, c .before .before .before .before .before .before .before .before .before .before .before .before .before .before .before .before .before .before .before .before .before .before .good)
@@ -66,7 +66,7 @@ loop-again c =
     let z = c .before .before .before .before .before .before .before .before .before .before .before .before .before .before .before .before .before .before .before .before .before .before in
     let turn = c .before .before .before .before .before .before .before .before .before .before .before .before .before .before .before .before .loop in
     let h = c .before .before .before .before .before .before .before .before .before .before .before .before .before .before .before .loop-test .taken in
-    (omega (arith, h), model-next (turn .inv .1) (list-step 0 (listOf (now (z .args .deck)) (z .args .list)) (turn .i) (omega (arith, h, list-length (now (z .args .deck)) (z .args .list .start) (z .args .list .count)))) (rw (c .before .before .before .before .before .before .before .before .before .before .item .ensures) at (c .before .before .before .before .before .before .before .before .before .fire-from .ensures)) (c .before .if1 .left))
+    (omega (arith, h), model-next (turn .inv .1) (list-step 0 (listOf (now (z .args .deck)) (z .args .list)) (turn .i) (omega (arith, h, list-length (now (z .args .deck)) (z .args .list .start) (z .args .list .count)))) (rw (c .before .before .before .before .before .before .before .before .before .before .item .ensures) at (c .before .before .before .before .before .before .before .before .before .fire-member .ensures)) (c .before .if1 .left))
 
 quiet-requires : tie.Need-quiet-requires Inv-loop μ-loop
 quiet-requires c κs = search needs
@@ -93,4 +93,4 @@ returns-2 c = rw (c .quiet .ensures) (
 pub fire-equivalent-spec : {M : Type 1} → statement M
 fire-equivalent-spec =
     tie.close
-    (tie.spec Inv-loop μ-loop loop-holds item-requires fire-from-requires same-length same-length-2 same-length-3 same-length-4 returns add-i loop-less loop-again quiet-requires same-length-5 same-length-6 same-length-7 same-length-8 returns-2)
+    (tie.spec Inv-loop μ-loop loop-holds item-requires fire-member-requires same-length same-length-2 same-length-3 same-length-4 returns add-i loop-less loop-again quiet-requires same-length-5 same-length-6 same-length-7 same-length-8 returns-2)

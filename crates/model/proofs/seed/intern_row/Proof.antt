@@ -1,5 +1,5 @@
-use mathlib.Core.Path.{_∙_}
 use Rattle.model.specs.Seed.{rowLabel}
+use mathlib.Core.Path.{_∙_}
 use borrow.Author.Needs.{needs}
 use Rattle.model.proofs.seed.intern_row.Statement.{statement}
 use Rattle.model.proofs.seed.intern_row.Tie as tie
@@ -7,10 +7,8 @@ use Rattle.model.proofs.seed.intern_row.Tie as tie
 load-row-requires : tie.Need-load-row-requires
 load-row-requires c κs = search needs
 
-intern-requires : tie.Need-intern-requires
-intern-requires c κs =
-    let s = c .before .before .before .before .before .before .before .before .before .before in
-    (s .pre .0, (s .pre .1 .1 .0, (c .before .before .before .before .load-row .kept .1 .1 .0 ∙ s .pre .1 .1 .1 .0, s .pre .1 .1 .1 .1)))
+intern-by-requires : tie.Need-intern-by-requires
+intern-by-requires c κs = let s = c .before .before .before .before .before .before .before .before .before .before .before .before .before .before in (s .pre .0, (s .pre .1 .1 .0, (c .before .before .before .before .before .before .load-row .kept .1 .1 .0 ∙ s .pre .1 .1 .1 .0, s .pre .1 .1 .1 .1)))
 
 same-length : tie.Need-same-length
 same-length c = search needs
@@ -18,9 +16,24 @@ same-length c = search needs
 same-length-2 : tie.Need-same-length-2
 same-length-2 c = search needs
 
+same-length-3 : tie.Need-same-length-3
+same-length-3 c = search needs
+
+same-length-4 : tie.Need-same-length-4
+same-length-4 c = search needs
+
 returns : tie.Need-returns
 unfolding rowLabel
-returns c = rw (c .before .before .before .before .before .before .before .before .before .load-row .ensures) at (c .before .before .before .before .intern .ensures)
+returns c = rw (c .before .before .before .before .before .before .before .before .before .before .before .before .before .before .before .load-row .ensures) at (c .before .before .before .before .before .before .before .before .intern-by .ensures)
 
 pub intern-row-spec : {M : Type 1} → statement M
-intern-row-spec = tie.close (tie.spec load-row-requires intern-requires same-length same-length-2 returns)
+intern-row-spec =
+    tie.close
+    (tie.spec
+    load-row-requires
+    intern-by-requires
+    same-length
+    same-length-2
+    same-length-3
+    same-length-4
+    returns)
