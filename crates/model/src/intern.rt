@@ -36,6 +36,33 @@ pub fn same_label(labels: &[u64], at: usize, label: &[u64]) -> bool
     true
 }
 
+// The last word of the label that has a class, where labels mostly differ; their number if none has.
+fn last_word(label: &[u64]) -> usize
+    ensures { λ r. ⌜ r ≤ length (now (label .entry)) ⌝ }
+{
+    let mut i = label.len();
+    while 0 < i {
+        i -= 1;
+        if label[i] != 0 {
+            return i;
+        }
+    }
+    label.len()
+}
+
+// The same as `same_label`, word w looked at first.
+fn is_row(labels: &[u64], at: usize, label: &[u64], w: usize) -> bool
+    requires { ⌜ at + length (now label) ≤ length (now labels) ⌝ }
+    ensures { λ r. ⌜ r ≡ sameLabel (rowAt (length (now (label .entry))) (now (labels .entry)) at) (now (label .entry)) ⌝ }
+{
+    if w < label.len() {
+        if labels[at + w] != label[w] {
+            return false;
+        }
+    }
+    same_label(labels, at, label)
+}
+
 // Where row e of w words starts, in a table of n rows.
 pub fn row_start(e: usize, n: usize, w: usize, room: usize) -> usize
     requires { ⌜ (e < n) × (n * w ≤ room) ⌝ }
@@ -49,10 +76,11 @@ fn find(labels: &[u64], elements: u32, label: &[u64]) -> u32
     requires { ⌜ elements * length (now label) ≤ length (now labels) ⌝ }
     ensures { λ r. ⌜ r ≡ indexOf (rowsOf (length (now (label .entry))) elements (now (labels .entry))) (now (label .entry)) ⌝ }
 {
+    let w = last_word(label);
     let mut e = 0;
     while e < elements {
         let at = row_start(e as usize, elements as usize, label.len(), labels.len());
-        if same_label(labels, at, label) {
+        if is_row(labels, at, label, w) {
             return e;
         }
         e += 1;
