@@ -5,7 +5,7 @@ use crate::ours::{self, Lent, Room, Structure, need};
 use crate::parts::Parts;
 use crate::rng::Rng;
 use crate::tally::Tally;
-use crate::{generate, reader};
+use crate::{generate, large, reader, repeats};
 
 const BOUND_NAMES: [&str; 3] = ["elements", "edges", "rounds"];
 const WIDE: u32 = 60;
@@ -21,6 +21,7 @@ pub fn same<T: PartialEq + std::fmt::Debug>(what: &str, ours: T, theirs: T) -> S
 /// The deck of a seed and an index, through both.
 pub fn deck(rng: &mut Rng, tally: &mut Tally) -> (Vec<u8>, Same) {
     let mut parts = building_deck(rng);
+    repeats::add(rng, &mut parts);
     if rng.chance(10) {
         generate::misplace(rng, &mut parts);
     }
@@ -74,7 +75,7 @@ fn accepted(rng: &mut Rng, tally: &mut Tally, deck: &[u8], parts: &Parts) -> Sam
     if rng.chance(10) {
         refused_measures(rng, tally, deck, parts, bounds, last_phase)?;
     }
-    if rng.chance(25) { lent_structure(rng, tally, deck, parts, &case) } else { Ok(()) }
+    if rng.chance(30) { lent_structure(rng, tally, deck, parts, &case) } else { Ok(()) }
 }
 
 /// Bounds that small decks stay within, mostly.
@@ -112,6 +113,7 @@ fn run(rng: &mut Rng, tally: &mut Tally, deck: &[u8], parts: &Parts, case: &Case
     }
     let theirs = case.answer(built);
     count_answer(tally, &theirs);
+    tally.add("decks with", "parallel edges of sub-roles", u64::from(has_parallel(parts, &theirs.edges)));
     let mut room = need(parts, bounds);
     room.labels += rng.below(4);
     room.edges += rng.below(3);
@@ -129,6 +131,29 @@ fn run(rng: &mut Rng, tally: &mut Tally, deck: &[u8], parts: &Parts, case: &Case
     judged(tally, deck, parts, &lent, &ours, &judgements)
 }
 
+/// A large deck: a whole run, without every concept at every element.
+pub fn large(rng: &mut Rng, tally: &mut Tally) -> (Vec<u8>, Same) {
+    let (parts, bounds, last) = large::deck(rng);
+    let deck = parts.bytes();
+    let found = whole(tally, &deck, &parts, bounds, last);
+    (deck, found)
+}
+
+fn whole(tally: &mut Tally, deck: &[u8], parts: &Parts, bounds: Bounds, last: u32) -> Same {
+    same("check", ours::check(deck), 0)?;
+    let case = Case::new(parts);
+    let built = case.build(bounds, last);
+    if let (Some(phase), Some([_, bound, _])) = (built.tripped_in, built.trip()) {
+        tally.add("tripped", format!("phase {phase} {}", BOUND_NAMES[bound as usize]), 1);
+    }
+    let theirs = case.answer(built);
+    count_answer(tally, &theirs);
+    tally.add("elements", "in all", u64::from(theirs.elements));
+    let mut lent = Lent::marked(Room { log: 3 * theirs.reasons.len(), ..need(parts, bounds) });
+    same("refusal of a run", lent.run(deck, bounds, last), 0)?;
+    answers(&lent.taken(parts)?, &theirs, theirs.reasons.len())
+}
+
 /// What a deck has that building turns on.
 fn count_deck(tally: &mut Tally, parts: &Parts) {
     let unsatisfiable = |class: u32| parts.classes[class as usize][0] == 1;
@@ -136,7 +161,9 @@ fn count_deck(tally: &mut Tally, parts: &Parts) {
     let universal = |concept: u32| matches!(parts.concepts[concept as usize], [0, ..] | [6, _, 0, _]);
     let repeats = |list: &[u32]| (1..list.len()).any(|k| list[..k].contains(&list[k]));
     let ands = parts.concepts.iter().filter(|concept| concept[0] == 6);
-    let mut lists = ands.chain(parts.axioms.iter().filter(|axiom| matches!(axiom[0], 1 | 2)));
+    let mut lists = ands.clone().chain(parts.axioms.iter().filter(|axiom| matches!(axiom[0], 1 | 2)));
+    let one_some_twice = |and: &[u32; 4]| twice(parts, and).iter().any(|operand| is_some(parts, *operand));
+    let [somes, shared] = depths(parts);
     for (name, has) in [
         ("unsatisfiable classes", parts.classes.iter().any(|class| class[0] == 1)),
         ("unsatisfiable q", q_unsatisfiable),
@@ -146,9 +173,66 @@ fn count_deck(tally: &mut Tally, parts: &Parts) {
         ("a universal subclass", parts.axioms.iter().any(|axiom| axiom[0] == 0 && universal(axiom[1]))),
         ("repeated members", lists.any(|record| repeats(parts.list(record[1], record[2])))),
         ("labels of two words or three", parts.width() > 1),
+        ("three nested Somes or more", somes > 2),
+        ("operands shared on three levels or more", shared > 2),
+        ("an And of one Some twice", ands.clone().any(one_some_twice)),
     ] {
         tally.add("decks with", name, u64::from(has));
     }
+}
+
+/// Is it a Some of a named role?
+fn is_some(parts: &Parts, concept: u32) -> bool {
+    let [tag, word, ..] = parts.concepts[concept as usize];
+    tag == 8 && word % 2 == 0
+}
+
+/// The operands that an And lists more than once.
+fn twice(parts: &Parts, and: &[u32; 4]) -> Vec<u32> {
+    let operands = parts.list(and[1], and[2]);
+    (1..operands.len()).filter(|k| operands[..*k].contains(&operands[*k])).map(|k| operands[k]).collect()
+}
+
+/// The deepest nesting of Somes, and of Ands that list an operand more than once, in what axioms about classes name.
+fn depths(parts: &Parts) -> [u32; 2] {
+    let mut below: Vec<[u32; 2]> = Vec::new();
+    let most = |below: &[[u32; 2]], concepts: &[u32], k: usize| {
+        concepts.iter().map(|concept| below[*concept as usize][k]).max().unwrap_or(0)
+    };
+    for (k, concept) in parts.concepts.iter().enumerate() {
+        below.push(match *concept {
+            [6, start, count, _] => {
+                let operands = parts.list(start, count);
+                let repeated = twice(parts, concept);
+                let shared = most(&below, &repeated, 1) + u32::from(!repeated.is_empty());
+                [most(&below, operands, 0), most(&below, operands, 1).max(shared)]
+            }
+            [8, _, body, _] if is_some(parts, k as u32) => [below[body as usize][0] + 1, below[body as usize][1]],
+            _ => [0; 2],
+        });
+    }
+    let named: Vec<u32> = parts
+        .axioms
+        .iter()
+        .flat_map(|axiom| match *axiom {
+            [0, sub, sup, _] => vec![sub, sup],
+            [1 | 2, start, count, _] => parts.list(start, count).to_vec(),
+            [9 | 10, _, concept, _] => vec![concept],
+            _ => Vec::new(),
+        })
+        .collect();
+    [0, 1].map(|k| most(&below, &named, k))
+}
+
+/// Are there edges of two sub-roles of a role between the same elements?
+fn has_parallel(parts: &Parts, edges: &[[u32; 3]]) -> bool {
+    let mut rows = parts.roles.iter().map(|[start, count, ..]| parts.list(*start, *count)).filter(|row| row.len() > 1);
+    rows.any(|row| {
+        let mut pairs: Vec<[u32; 2]> =
+            edges.iter().filter(|edge| row.contains(&edge[0])).map(|[_, from, to]| [*from, *to]).collect();
+        pairs.sort_unstable();
+        pairs.windows(2).any(|two| two[0] == two[1])
+    })
 }
 
 pub fn count_answer(tally: &mut Tally, answer: &Answer) {
@@ -259,19 +343,31 @@ fn refused_measures(rng: &mut Rng, tally: &mut Tally, deck: &[u8], parts: &Parts
     refused_run(deck, bounds, last, room, number)
 }
 
+/// What a lent structure has that judging turns on.
+fn count_lent(tally: &mut Tally, parts: &Parts, edges: &[[u32; 3]]) {
+    let again = |k: usize, apart: usize| (0..k.saturating_sub(apart)).any(|before| edges[before] == edges[k]);
+    let runs: Vec<u32> = edges.chunk_by(|one, next| one[1] == next[1]).map(|run| run[0][1]).collect();
+    for (name, has) in [
+        ("lent edges that repeat", (0..edges.len()).any(|k| again(k, 0))),
+        ("lent edges that repeat apart", (0..edges.len()).any(|k| again(k, 1))),
+        ("lent edges of an element in several runs", (1..runs.len()).any(|k| runs[..k].contains(&runs[k]))),
+        ("lent parallel edges of sub-roles", has_parallel(parts, edges)),
+    ] {
+        tally.add("decks with", name, u64::from(has));
+    }
+}
+
 /// A structure that no run built, with repeated edges: judged by both. And refusals 10 and 11.
 fn lent_structure(rng: &mut Rng, tally: &mut Tally, deck: &[u8], parts: &Parts, case: &Case) -> Same {
     let (n, width) = (parts.classes.len(), parts.width());
-    let elements = rng.word(6);
+    let elements = rng.pick(&[0, 1, 2, 3, 3, 4, 4, 5, 5, 8, 12]);
     let mut labels = vec![0u64; elements as usize * width + rng.below(2)];
     for at in 0..elements as usize {
         (0..n).filter(|_| rng.chance(40)).for_each(|k| labels[at * width + k / 64] |= 1 << (k % 64));
     }
     let any = elements > 0 && !parts.roles.is_empty();
-    let count = if any { rng.below(9) } else { 0 };
-    let edges: Vec<[u32; 3]> = (0..count)
-        .map(|_| [rng.word(parts.roles.len()), rng.word(elements as usize), rng.word(elements as usize)])
-        .collect();
+    let edges = if any { repeats::edges(rng, parts, elements as usize) } else { Vec::new() };
+    count_lent(tally, parts, &edges);
     let given = Given { width, labels: &labels, elements, edges: &edges, hierarchy: hierarchy(parts) };
     let structure = Structure { labels: &labels, elements, edges: &edges, edge_count: edges.len() as u32 };
     tally.add("decks", "with a lent structure", 1);

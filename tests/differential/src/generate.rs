@@ -35,7 +35,7 @@ pub fn deck(rng: &mut Rng) -> Parts {
 }
 
 /// Adds a list, or finds it where it stands already. An empty one may start anywhere.
-fn list(rng: &mut Rng, parts: &mut Parts, members: &[u32]) -> [u32; 2] {
+pub fn list(rng: &mut Rng, parts: &mut Parts, members: &[u32]) -> [u32; 2] {
     let count = members.len() as u32;
     if members.is_empty() {
         return [rng.word(parts.lists.len() + 1), 0];

@@ -7,16 +7,21 @@
 //! STYLE_DECK_RUST is the folder of the original files, the one that holds `crates/`. Other words than SEED COUNT:
 //!
 //!     SEED COUNT FIRST        the same, from deck number FIRST on
+//!     large SEED COUNT        the same over decks of some hundred classes and some thousand edges
 //!     replay SEED FOLDER      writes the original's answers to 300 decks as stdin and stdout of a program;
 //!                             `replay 7 ../../crates/test_replay` wrote the ones there
-//!     speed                   times both
+//!     speed                   times both, phase by phase, and on decks at the limits
+//!     extremes                the last of these only
 mod answer;
 mod compare;
+mod extremes;
 mod generate;
+mod large;
 mod oracle;
 mod ours;
 mod parts;
 mod reader;
+mod repeats;
 mod replay;
 mod rng;
 mod speed;
@@ -28,18 +33,20 @@ use tally::Tally;
 
 fn number(word: Option<&String>) -> u64 {
     word.and_then(|word| word.parse().ok()).unwrap_or_else(|| {
-        eprintln!("differential SEED COUNT [FIRST] | replay SEED FOLDER | speed");
+        eprintln!("differential SEED COUNT [FIRST] | large SEED COUNT | replay SEED FOLDER | speed | extremes");
         std::process::exit(2)
     })
 }
 
+type Made = fn(&mut Rng, &mut Tally) -> (Vec<u8>, Result<(), String>);
+
 /// Exit status 1 if an answer differs.
-fn compare(seed: u64, count: u64, first: u64) -> i32 {
+fn compare(made: Made, seed: u64, count: u64, first: u64) -> i32 {
     let (mut tally, began) = (Tally::default(), Instant::now());
     let mut differences = 0;
     for index in first..first + count {
         tally.add("decks", "in all", 1);
-        let (deck, found) = compare::deck(&mut Rng::new(seed, index), &mut tally);
+        let (deck, found) = made(&mut Rng::new(seed, index), &mut tally);
         if let Err(what) = found {
             differences += 1;
             if differences <= 3 {
@@ -63,9 +70,18 @@ fn main() {
         }
         Some("speed") => {
             speed::run();
+            extremes::run();
             0
         }
-        _ => compare(number(words.first()), number(words.get(1)), words.get(2).map_or(0, |_| number(words.get(2)))),
+        Some("extremes") => {
+            extremes::run();
+            0
+        }
+        Some("large") => compare(compare::large, number(words.get(1)), number(words.get(2)), 0),
+        _ => {
+            let first = words.get(2).map_or(0, |_| number(words.get(2)));
+            compare(compare::deck, number(words.first()), number(words.get(1)), first)
+        }
     };
     std::process::exit(status);
 }

@@ -347,7 +347,10 @@ impl Interpretation for Given<'_> {
         self.labels[e * self.width + k / 64] >> (k % 64) & 1 == 1
     }
     fn successors(&self, e: Element, r: RoleId) -> Vec<Element> {
-        let mut found: Vec<Element> = self.edges(r).into_iter().filter(|(x, _)| *x == e).map(|(_, y)| y).collect();
+        let subs = self.hierarchy.sub_roles(r);
+        let here = self.edges.iter().filter(|[s, x, _]| *x == e.index() && subs.contains(&RoleId::new(*s)));
+        let mut found: Vec<Element> = here.map(|[_, _, y]| Element::new(*y)).collect();
+        found.sort_unstable();
         found.dedup();
         found
     }

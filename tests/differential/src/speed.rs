@@ -18,13 +18,13 @@ fn now() -> f64 {
     time[0] as f64 * 1e6 + time[1] as f64 / 1e3
 }
 
-fn timed<T>(work: impl FnOnce() -> T) -> f64 {
+pub fn timed<T>(work: impl FnOnce() -> T) -> f64 {
     let began = now();
     black_box(work());
     now() - began
 }
 
-fn listed(parts: &mut Parts, members: &[u32]) -> [u32; 2] {
+pub fn listed(parts: &mut Parts, members: &[u32]) -> [u32; 2] {
     parts.lists.extend_from_slice(members);
     [(parts.lists.len() - members.len()) as u32, members.len() as u32]
 }
@@ -117,7 +117,7 @@ fn rule(size: &Size, parts: &mut Parts, rng: &mut Rng, k: u32) {
 }
 
 /// The least of several times.
-fn least<T>(mut work: impl FnMut() -> T) -> f64 {
+pub fn least<T>(mut work: impl FnMut() -> T) -> f64 {
     let (began, mut best, mut turns) = (now(), f64::MAX, 0);
     while turns < 4 || (now() - began < 2_000_000.0 && turns < 1000) {
         best = best.min(timed(&mut work));
