@@ -1,6 +1,6 @@
 #!/usr/bin/env python3
 """Times the program verify on decks that a verifier could stall on: nested Somes, shared Ands, wide lists. Prints for
-each its bytes, its processor seconds (the best of three; a deck is stopped at 20) and the first line of the output. Exit
+each its bytes, its processor seconds (the best of three; stopped at 20) and the first line of the output. Exit
 status 1: a deck of nested Somes or shared Ands took 0.05 s or more, or one of wide lists a second or more. Run it from
 the repository's top after `rt check verify`.
 
