@@ -44,6 +44,27 @@ module _ (D : Deck) (S : Structure) (s : List ℕ) (x y z : ℕ) where
   unfolding Declared
   declaration tag h k = let e : 23 + (tag - 23) ≡ tag = omega arith in rw e at (case-at Declared 3 (tag - 23) all-declared (omega arith))
 
+-- ---- what was read, where its tag is known
+module _ (s : List ℕ) (r : AxiomRecord) (k : ℕ) (e : r .tag ≡ k) where
+  pub fits-at : FormFits s (conceptCount (deckOf s)) (axiomForm (r .tag)) (r .first) (r .second) (r .third) → FormFits s (conceptCount (deckOf s)) (axiomForm k) (r .first) (r .second) (r .third)
+  fits-at f = rw e at f
+
+  pub verdict-at : (S : Structure) {v : Verdict} → v ≡ verdict (deckOf s) S (axiomOf s k (r .first) (r .second) (r .third)) → v ≡ verdict (deckOf s) S (axiomOf s (r .tag) (r .first) (r .second) (r .third))
+  verdict-at S p = rw e p
+
+-- of the tags 4 to 12, the one that no arm names
+from-seven : (n : ℕ) → 4 ≤ n → (n ≡ 4 → ⊥) → (n ≡ 5 → ⊥) → (n ≡ 6 → ⊥) → 7 ≤ n
+from-seven n h a b c = omega (arith, a, b, c)
+
+below-ten : (n : ℕ) → n < 13 → (n ≡ 10 → ⊥) → (n ≡ 11 → ⊥) → (n ≡ 12 → ⊥) → n < 10
+below-ten n h a b c = omega (arith, a, b, c)
+
+between : (n : ℕ) → 7 ≤ n → n < 10 → (n ≡ 8 → ⊥) → (n ≡ 9 → ⊥) → n ≡ 7
+between n h k a b = omega (arith, a, b)
+
+pub only-seven : (n : ℕ) → 4 ≤ n → n < 13 → (n ≡ 4 → ⊥) → (n ≡ 5 → ⊥) → (n ≡ 6 → ⊥) → (n ≡ 8 → ⊥) → (n ≡ 9 → ⊥) → (n ≡ 10 → ⊥) → (n ≡ 11 → ⊥) → (n ≡ 12 → ⊥) → n ≡ 7
+only-seven n h k a b c d e f g i = between n (from-seven n h a b c) (below-ten n k f g i) d e
+
 module _ (s labels : List ℕ) (rows : List (List ℕ)) (shape : Shape) (F : Fits s labels rows shape) (a : ℕ) {r : AxiomRecord} (R : AxiomRead s a r) where
   abbrev D : Deck
   D = deckOf s
@@ -51,13 +72,6 @@ module _ (s labels : List ℕ) (rows : List (List ℕ)) (shape : Shape) (F : Fit
   abbrev S : Structure
   S = structureOf D labels rows shape
 
-  -- the fields, where the tag is known
-  pub fits-at : (k : ℕ) → r .tag ≡ k → FormFits s (conceptCount D) (axiomForm k) (r .first) (r .second) (r .third)
-  fits-at k e = rw e at (R .fits)
-
   -- a verdict of what was read is the axiom's, and justified
   pub answer : {v : Verdict} → v ≡ verdict D S (axiomOf s (r .tag) (r .first) (r .second) (r .third)) → (v ≡ verdict D S (axiomAt D a)) × Justified D S (axiomAt D a) v
   answer p = let q = p ∙ ap (verdict D S) (R .is) in (q, rw q (justified D (sound s (F .accepted)) S (axiomAt D a)))
-
-  pub answer-at : (k : ℕ) → r .tag ≡ k → {v : Verdict} → v ≡ verdict D S (axiomOf s k (r .first) (r .second) (r .third)) → (v ≡ verdict D S (axiomAt D a)) × Justified D S (axiomAt D a) v
-  answer-at k e p = answer (rw e p)

@@ -28,6 +28,7 @@ pub mod SeenLaws
 pub mod IndexLaws
 pub mod PairLaws
 pub mod RoleLaws
+pub mod EquivalentLaws
 pub mod LeafLaws
 pub mod JustifiedLaws
 pub mod AxiomLaws

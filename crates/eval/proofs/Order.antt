@@ -75,7 +75,7 @@ else-stays (UnhandledAxiom tag part) v n = refl
 else-stays (UnhandledConcept tag) v n = refl
 else-stays (GuardedRoleHasEdges r) v n = refl
 
-turn-all : {A : Type 0} (g : A → Verdict) (xs : List A) → ((x : A) → Member x xs → g x ≡ Holds) → inTurn (map g xs) ≡ Holds
+pub turn-all : {A : Type 0} (g : A → Verdict) (xs : List A) → ((x : A) → Member x xs → g x ≡ Holds) → inTurn (map g xs) ≡ Holds
 unfolding inTurn
 turn-all g [] h = refl
 turn-all g (x ∷ xs) h = rw (h x (here refl)) (turn-all g xs (λ y m. h y (there m)))

@@ -1,5 +1,6 @@
-// Equivalent roles: each ordered pair of members, held against each other.
+// Equivalent roles: the first member held against each, and each against the first.
 ghost use mathlib.Core.Path.{_≡_};
+ghost use mathlib.Core.Bool.{false};
 ghost use mathlib.Core.List.{map};
 ghost use Prim.Native.Nat.{_*_, _<_};
 ghost use Rattle.deck.specs.Content.{IsAccepted, deckOf};
@@ -98,7 +99,37 @@ fn check_against(
     Verdict::Holds
 }
 
-// The pairs of each member in each other.
+// The pairs of each member of the list in b.
+fn check_each_against(
+    deck: &[u8],
+    labels: &[u64],
+    edges: &[[u32; 3]],
+    shape: Shape,
+    index: &[u32],
+    memo: &mut [u16],
+    list: Span,
+    b: RoleWord,
+) -> Verdict
+    requires { ⌜ Equipped (now deck) (now labels) (now edges) shape (now index) (now memo) ⌝ }
+    requires { ⌜ ListFits (now deck) (2 * roleCount (deckOf (now deck))) list ⌝ }
+    requires { ⌜ b .0 < 2 * roleCount (deckOf (now deck)) ⌝ }
+    ensures is { λ v. ⌜ v ≡ inTurn (map (λ a. across (deckOf (now (deck .entry))) (structureOf (deckOf (now (deck .entry))) (now (labels .entry)) (now (edges .entry)) shape) a (roleOf (b .0))) (map roleOf (listOf (now (deck .entry)) list))) ⌝ }
+    ensures kept { λ _. ⌜ Equipped (now (deck .entry)) (now (labels .entry)) (now (edges .entry)) shape (now (index .entry)) (now (memo .exit)) ⌝ }
+{
+    let count = list.count;
+    let mut i = 0;
+    while i < count {
+        let a = RoleWord(item(deck, list, i));
+        let v = check_across(deck, labels, edges, shape, index, memo, a, b);
+        if !holds(v) {
+            return v;
+        }
+        i += 1;
+    }
+    Verdict::Holds
+}
+
+// The pairs of the first member in each, then those of each in the first. Inclusion is transitive: no other two can fail.
 fn check_members(
     deck: &[u8],
     labels: &[u64],
@@ -110,20 +141,20 @@ fn check_members(
 ) -> Verdict
     requires { ⌜ Equipped (now deck) (now labels) (now edges) shape (now index) (now memo) ⌝ }
     requires { ⌜ ListFits (now deck) (2 * roleCount (deckOf (now deck))) list ⌝ }
+    requires { ⌜ anyInverse (map roleOf (listOf (now deck) list)) ≡ false ⌝ }
     ensures is { λ v. ⌜ v ≡ equivalent (deckOf (now (deck .entry))) (structureOf (deckOf (now (deck .entry))) (now (labels .entry)) (now (edges .entry)) shape) (map roleOf (listOf (now (deck .entry)) list)) ⌝ }
     ensures kept { λ _. ⌜ Equipped (now (deck .entry)) (now (labels .entry)) (now (edges .entry)) shape (now (index .entry)) (now (memo .exit)) ⌝ }
 {
     let count = list.count;
-    let mut i = 0;
-    while i < count {
-        let a = RoleWord(item(deck, list, i));
-        let v = check_against(deck, labels, edges, shape, index, memo, a, list);
-        if !holds(v) {
-            return v;
-        }
-        i += 1;
+    if count == 0 {
+        return Verdict::Holds;
     }
-    Verdict::Holds
+    let first = RoleWord(item(deck, list, 0));
+    let v = check_against(deck, labels, edges, shape, index, memo, first, list);
+    if !holds(v) {
+        return v;
+    }
+    check_each_against(deck, labels, edges, shape, index, memo, list, first)
 }
 
 // The members have the same edges.

@@ -1,6 +1,5 @@
 use mathlib.Core.Path.{sym, _∙_}
 use Rattle.eval.specs.Verdict.{verdict}
-use borrow.Author.Needs.{needs}
 use Rattle.eval.proofs.equivalent.check_equivalent_properties.Statement.{statement}
 use Rattle.eval.proofs.equivalent.check_equivalent_properties.Tie as tie
 use Rattle.eval.proofs.equivalent.check_equivalent_properties.Reads as reads
@@ -16,7 +15,7 @@ unfolding verdict
 returns c = (rw (sym (c .before .any-inverse .ensures) ∙ c .if1 .taken), c .before .before .before .before .before .before .pre .0)
 
 check-members-requires : tie.Need-check-members-requires
-check-members-requires c κs = search needs
+check-members-requires c κs = let z = c .before .before .before .before .before .before .before in (z .pre .0, (z .pre .1, sym (c .before .before .any-inverse .ensures) ∙ c .before .if1 .left))
 
 same-length : tie.Need-same-length
 same-length c = c .before .before .check-members .kept .1 .1 .1 .1 .1 .0
