@@ -259,9 +259,6 @@ module _ (D : Deck) (n limit : ℕ) where
 
 -- a step over n elements, said over m
 module _ (D : Deck) {m n : ℕ} (limit : ℕ) (e : m ≡ n) where
-  pub join-same : (v x z : ℕ) (s : State) → join D m limit v x z s ≡ join D n limit v x z s
-  join-same v x z s = rw e
-
   pub from-same : (b v : ℕ) (p : Pair) (s : State) → closeFrom D m limit b v p s ≡ closeFrom D n limit b v p s
   from-same b v p s = rw e
 

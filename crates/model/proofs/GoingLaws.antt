@@ -14,7 +14,7 @@ use Rattle.model.specs.declared.tally.Step.{Step}
 use Rattle.model.specs.Pairs.{linkKey, first}
 use Rattle.model.specs.Push.{State, quiet, start, Left, Room}
 use Rattle.model.specs.Walk.{walk}
-use Rattle.model.proofs.NextLaws.{next-none, next-from, next-below, next-some}
+use Rattle.model.proofs.NextLaws.{next-none, next-from, next-hit, next-below, next-some}
 use Rattle.model.proofs.WalkLaws.{OnEdges, on-start, on-done, on-stop, on-next}
 
 -- the numbers of the pairs of r among the edges of before, from a on and below `end`
@@ -42,6 +42,9 @@ module _ (D : Deck) (limit : ℕ) (f : ℕ → State → State) (r from end : �
     module _ {j : ℕ} (q : o ≡ At j) where
       pub going-past : after ≤ j
       going-past = next-from (linkKey D (edgesOf was (t .edges)) r) after end (G .le) found j q
+
+      pub going-hit : linkKey D (edgesOf was (t .edges)) r j ≡ true
+      going-hit = next-hit (linkKey D (edgesOf was (t .edges)) r) after end (G .le) found j q
 
       pub going-below : j < end
       going-below = next-below (linkKey D (edgesOf was (t .edges)) r) after end (G .le) found j q

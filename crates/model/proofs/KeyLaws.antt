@@ -1,5 +1,5 @@
--- Walking the pairs of a role, and the successors of an element, by their numbers from × 65,536 + to.
---     from-keys, rule-keys      closing from a pair, and by a rule, as walks over numbers
+-- Walking the pairs of a role by their numbers from × 65,536 + to.
+--     rule-keys      closing by a rule as a walk over numbers
 use Prim.Native.Nat.{ℕ, zero, suc, _+_, _-_, _*_, _/_, _%_, _<_, _≤_}
 use mathlib.Core.Bool.{Bool, true, false, cond}
 use mathlib.Core.Path.{_≡_, refl, sym, ap, _∙_}
@@ -8,11 +8,11 @@ use native.Mathlib.Omega.{arith}
 use Rattle.deck.specs.Deck.{Deck}
 use Rattle.eval.specs.declared.edges.Edge.{Edge}
 use Rattle.eval.specs.Lists.{keep, range}
-use Rattle.eval.specs.Structure.{Pair, pair, hasEdge, successors, pairs}
+use Rattle.eval.specs.Structure.{pair, hasEdge, successors, pairs}
 use Rattle.model.specs.Push.{State}
 use Rattle.model.specs.Pairs.{pairOf, linkKey, EndsFit}
 use Rattle.model.specs.Walk.{walk}
-use Rattle.model.specs.Closing.{graph, join, closeFrom, closeRule, EdgesFit}
+use Rattle.model.specs.Closing.{graph, closeFrom, closeRule, EdgesFit}
 use Rattle.model.proofs.NextLaws.{keep-none}
 use Rattle.model.proofs.WalkLaws.{walk-map}
 use Rattle.model.proofs.CloseLaws.{linked-is, linked-fits}
@@ -52,10 +52,6 @@ module _ {B : Type 0} (p : ℕ → Bool) (q : ℕ → Bool) (f g : ℕ → B) (x
   pub row-keys : (m : ℕ) → m ≤ 65536 → map f (keep p (range (x * 65536) m)) ≡ map g (keep q (range 0 m))
   row-keys m h = let e : x * 65536 + 0 ≡ x * 65536 = omega arith in rw e at (row-from 0 m (omega arith))
 
-map-id : {A : Type 0} (xs : List A) → map (λ x. x) xs ≡ xs
-map-id [] = refl
-map-id (x ∷ xs) = ap (λ l. x ∷ l) (map-id xs)
-
 module _ (D : Deck) (n : ℕ) (small : n ≤ 65536) (es : List Edge) (r : ℕ) where
   key-is : (x j : ℕ) → j < 65536 → linkKey D es r (x * 65536 + j) ≡ hasEdge D (graph n es) r x j
   key-is x j h =
@@ -63,18 +59,11 @@ module _ (D : Deck) (n : ℕ) (small : n ≤ 65536) (es : List Edge) (r : ℕ) w
       let b : (x * 65536 + j) % 65536 ≡ j = omega arith in
       rw (a, b) (sym (linked-is D n es r x j))
 
-  target-is : (x j : ℕ) → j < 65536 → (x * 65536 + j) % 65536 ≡ j
-  target-is x j h = omega arith
-
   pair-is : (x j : ℕ) → j < 65536 → pairOf (x * 65536 + j) ≡ pair x j
   pair-is x j h =
       let a : (x * 65536 + j) / 65536 ≡ x = omega arith in
       let b : (x * 65536 + j) % 65536 ≡ j = omega arith in
       rw (a, b)
-
-  pub successors-keys : (x : ℕ) → map (λ k. k % 65536) (keep (linkKey D es r) (range (x * 65536) n)) ≡ successors D (graph n es) r x
-  unfolding successors
-  successors-keys x = row-keys (linkKey D es r) (hasEdge D (graph n es) r x) (λ k. k % 65536) (λ j. j) x (key-is x) (target-is x) n small ∙ map-id _
 
   module _ (F : EdgesFit D n es) where
     out : (k : ℕ) → n ≤ k % 65536 → linkKey D es r k ≡ false
@@ -110,12 +99,6 @@ module _ (D : Deck) (n : ℕ) (small : n ≤ 65536) (es : List Edge) (r : ℕ) w
     pairs-keys = let e : 0 * 65536 ≡ 0 = omega arith in rw e at (blocks 0 n)
 
 module _ (D : Deck) (n limit : ℕ) (small : n ≤ 65536) (s : State) where
-  pub from-keys : (b v : ℕ) (p : Pair) → walk (λ k. join D n limit v (p .from) (k % 65536)) (keep (linkKey D (s .edges) b) (range (p .to * 65536) n)) s ≡ closeFrom D n limit b v p s
-  unfolding closeFrom
-  from-keys b v p =
-      sym (walk-map (join D n limit v (p .from)) (λ k. k % 65536) (keep (linkKey D (s .edges) b) (range (p .to * 65536) n)) s)
-      ∙ ap (λ l. walk (join D n limit v (p .from)) l s) (successors-keys D n small (s .edges) b (p .to))
-
   pub rule-keys : EdgesFit D n (s .edges) → (a b v : ℕ) → walk (λ k. closeFrom D n limit b v (pairOf k)) (keep (linkKey D (s .edges) a) (range 0 (n * 65536))) s ≡ closeRule D n limit a b v s
   unfolding closeRule
   rule-keys F a b v =

@@ -10,10 +10,12 @@ pub mod SeedLaws
 pub mod TidyLaws
 pub mod PushLaws
 pub mod NextLaws
+pub mod WordLaws
 pub mod WalkLaws
 pub mod SkipLaws
 pub mod CloseLaws
 pub mod SweepLaws
+pub mod EndsLaws
 pub mod RuleLaws
 pub mod Passes
 pub mod KeyLaws

@@ -67,6 +67,19 @@ first-at p a (suc n) t e = go (p a) refl (first-at p (suc a) n t)
         let z : suc a + n - (t + 1) ≡ a + suc n - (t + 1) = omega arith in
         (omega arith, omega arith, rw (q, ← z) (r .2))
 
+-- the first of the kept passes
+first-hit : (p : ℕ → Bool) (xs : List ℕ) (t : ℕ) → first (keep p xs) ≡ At t → p t ≡ true
+unfolding keep
+first-hit p [] t e = clash (cc)
+first-hit p (x ∷ xs) t e = go (p x) refl (first-hit p xs t)
+  where
+    go : (b : Bool) → p x ≡ b → (first (keep p xs) ≡ At t → p t ≡ true) → p t ≡ true
+    go true q ih =
+        let h : At x ≡ At t = rw q at e in
+        let j : x ≡ t = cc in
+        rw j at q
+    go false q ih = ih (rw q at e)
+
 none-first : (xs : List ℕ) → first xs ≡ Nothing → xs ≡ []
 none-first [] q = refl
 none-first (x ∷ xs) q = clash (cc)
@@ -79,6 +92,9 @@ module _ (p : ℕ → Bool) (after end : ℕ) (le : after ≤ end) {o : Found} (
   module _ (t : ℕ) (q : o ≡ At t) where
     pub next-from : after ≤ t
     next-from = first-at p after (end - after) t (sym e ∙ q) .0
+
+    pub next-hit : p t ≡ true
+    next-hit = first-hit p (range after (end - after)) t (sym e ∙ q)
 
     pub next-below : t < end
     next-below = omega (arith, first-at p after (end - after) t (sym e ∙ q) .1)
@@ -130,12 +146,12 @@ map-snoc : {A B : Type 0} (f : A → B) (xs : List A) (x : A) → map f (xs ++ (
 map-snoc f [] x = refl
 map-snoc f (y ∷ ys) x = ap (λ l. f y ∷ l) (map-snoc f ys x)
 
-any-snoc : {A : Type 0} (p : A → Bool) (xs : List A) (x : A) → any (map p (xs ++ (x ∷ []))) ≡ (any (map p xs) || p x)
+pub any-snoc : {A : Type 0} (p : A → Bool) (xs : List A) (x : A) → any (map p (xs ++ (x ∷ []))) ≡ (any (map p xs) || p x)
 unfolding any
 any-snoc p [] x = or-false (p x)
 any-snoc p (y ∷ ys) x = rw (any-snoc p ys x) (sym (or-assoc (p y) (any (map p ys)) (p x)))
 
-edges-next : (rows : List (List ℕ)) (i : ℕ) → i < length rows → edgesOf rows (i + 1) ≡ edgesOf rows i ++ (edgeOf (getD rows i []) ∷ [])
+pub edges-next : (rows : List (List ℕ)) (i : ℕ) → i < length rows → edgesOf rows (i + 1) ≡ edgesOf rows i ++ (edgeOf (getD rows i []) ∷ [])
 unfolding edgesOf
 edges-next rows i h = rw (add-one, take-suc rows i []) (map-snoc edgeOf (take i rows) (getD rows i []))
 

@@ -10,6 +10,7 @@ pub mod Pairs
 pub mod Rules
 pub mod Walk
 pub mod Closing
+pub mod Ends
 pub mod Target
 pub mod Model
 pub mod Expand

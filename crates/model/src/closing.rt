@@ -1,15 +1,18 @@
 // Closing the edges under two-link chains and transitive roles, until a pass adds nothing.
 ghost use mathlib.Core.Path.{_≡_};
-ghost use Prim.Native.Nat.{ℕ, _*_, _<_, _≤_};
+ghost use Prim.Native.Nat.{ℕ, _*_, _/_, _%_, _<_, _≤_};
 ghost use lib.ListN.{length};
-ghost use Rattle.deck.specs.Content.{IsAccepted, deckOf};
+ghost use Rattle.deck.specs.Content.{deckOf};
 ghost use Rattle.deck.specs.Deck.{axiomAt, axiomCount, roleCount};
 ghost use Rattle.eval.specs.Index.{fromAt, Indexed};
 ghost use Rattle.model.specs.Closing as spec;
 ghost use Rattle.model.specs.Closing.{Ready};
+ghost use Rattle.model.specs.Ends.{addEnds, isNew};
 ghost use Rattle.model.specs.Pairs.{pairOf};
 ghost use Rattle.model.specs.Push.{Left, Room, start};
 use crate::bounds::Bounds;
+use crate::ends::mark_ends;
+use crate::ends::next_new;
 use crate::pairs::Found;
 use crate::pairs::count_pairs;
 use crate::pairs::next_pair;
@@ -22,40 +25,49 @@ use deck::axioms::axiom_count;
 use deck::numbers::Element;
 use deck::numbers::RoleId;
 use eval::edges::Edge;
-use eval::edges::has_edge;
 use eval::index::make_index;
 
-// The edge of v from x to z, where there is none.
-fn join(
-    deck: &[u8],
+// An edge of v from x to each element that is ahead and not known, rising.
+fn add_ends(
     limit: u32,
     edges: &mut [[u32; 3]],
     log: &mut [u32],
     t: Tally,
     v: RoleId,
     x: Element,
-    z: Element,
-    index: &[u32],
+    ahead: &[u64],
+    known: &[u64],
 ) -> Step
-    requires { ⌜ IsAccepted (now deck) ⌝ }
     requires { ⌜ Room limit (now edges) (t .edges) ⌝ }
-    requires { ⌜ v .0 < roleCount (deckOf (now deck)) ⌝ }
-    requires { ⌜ Indexed (now edges) (t .elements) (t .edges) (now index) ⌝ }
-    requires { ⌜ x .0 < t .elements ⌝ }
-    ensures { λ r. ⌜ Left limit (now (edges .entry)) (now (log .entry)) t (now (edges .exit)) (now (log .exit)) r (spec.join (deckOf (now (deck .entry))) (t .elements) limit (v .0) (x .0) (z .0) (start (now (edges .entry)) (now (log .entry)) t)) ⌝ }
+    requires { ⌜ t .elements ≤ 65536 ⌝ }
+    requires { ⌜ t .elements ≤ length (now ahead) * 64 ⌝ }
+    requires { ⌜ t .elements ≤ length (now known) * 64 ⌝ }
+    ensures { λ r. ⌜ Left limit (now (edges .entry)) (now (log .entry)) t (now (edges .exit)) (now (log .exit)) r (addEnds limit (v .0) (x .0) (isNew (now (ahead .entry)) (now (known .entry))) (t .elements) (start (now (edges .entry)) (now (log .entry)) t)) ⌝ }
 {
-    if has_edge(deck, edges, t.edges, index, t.elements, v, x, z) {
-        return Step::quiet(t);
+    let mut after: u32 = 0;
+    let mut held = t;
+    loop {
+        let z = next_new(ahead, known, t.elements, after);
+        if t.elements <= z {
+            return Step::quiet(held);
+        }
+        let e = Edge {
+            role: v,
+            from: x,
+            to: Element(z),
+        };
+        let s = add_edge(limit, edges, log, held, e);
+        let tripped = s.tripped;
+        if tripped {
+            return s;
+        }
+        held = s.tally;
+        after = z + 1;
     }
-    let e = Edge {
-        role: v,
-        from: x,
-        to: z,
-    };
-    add_edge(limit, edges, log, t, e)
 }
 
-// From the pair k: each edge of b that goes on from it, among the first `seen` edges: all that there are when this begins.
+// From the pair k = (x, y): an edge of v from x to each end of the edges of b from y, where there is none. The ends are
+// those of the first `seen` edges: all that there are when this begins.
 fn close_from(
     deck: &[u8],
     limit: u32,
@@ -67,55 +79,33 @@ fn close_from(
     v: RoleId,
     k: u64,
     index: &[u32],
+    ahead: &mut [u64],
+    known: &mut [u64],
 ) -> Step
     requires { ⌜ Ready (now deck) limit (now edges) t ⌝ }
     requires { ⌜ b .0 < roleCount (deckOf (now deck)) ⌝ }
     requires { ⌜ v .0 < roleCount (deckOf (now deck)) ⌝ }
-    requires { ⌜ k < t .elements * 65536 ⌝ }
+    requires { ⌜ (k / 65536 < t .elements) × (k % 65536 < t .elements) ⌝ }
     requires { ⌜ seen ≡ t .edges ⌝ }
     requires { ⌜ Indexed (now edges) (t .elements) (t .edges) (now index) ⌝ }
+    requires { ⌜ t .elements ≤ length (now ahead) * 64 ⌝ }
+    requires { ⌜ t .elements ≤ length (now known) * 64 ⌝ }
     ensures { λ r. ⌜ Left limit (now (edges .entry)) (now (log .entry)) t (now (edges .exit)) (now (log .exit)) r (spec.closeFrom (deckOf (now (deck .entry))) (t .elements) limit (b .0) (v .0) (pairOf k) (start (now (edges .entry)) (now (log .entry)) t)) ⌝ }
 {
     let x = (k / 65536) as u32;
-    let from = k % 65536 * 65536;
-    let end = from + t.elements as u64;
-    let mut after = from;
-    let mut held = t;
-    loop {
-        let found = next_pair(
-            deck,
-            edges,
-            held.edges,
-            index,
-            held.elements,
-            seen,
-            b,
-            after,
-            end,
-            false,
-        );
-        let Found::At(j) = found else {
-            return Step::quiet(held);
-        };
-        let z = (j % 65536) as u32;
-        let s = join(
-            deck,
-            limit,
-            edges,
-            log,
-            held,
-            v,
-            Element(x),
-            Element(z),
-            index,
-        );
-        let tripped = s.tripped;
-        if tripped {
-            return s;
-        }
-        held = s.tally;
-        after = j + 1;
-    }
+    let y = (k % 65536) as u32;
+    mark_ends(deck, edges, seen, index, t.elements, b, Element(y), ahead);
+    mark_ends(
+        deck,
+        edges,
+        t.edges,
+        index,
+        t.elements,
+        v,
+        Element(x),
+        known,
+    );
+    add_ends(limit, edges, log, t, v, Element(x), ahead, known)
 }
 
 // An index of the edges, made anew where it has fallen far behind.
@@ -134,8 +124,9 @@ fn refresh(edges: &[[u32; 3]], count: u32, elements: u32, index: &mut [u32])
     }
 }
 
-// By a rule: each edge of a, as they stand when this begins. `few`: it has so few that a look at all edges finds the next.
-fn close_by(
+// The pairs of a one after the other, as they stand when this begins. `few`: it has so few that a look at all edges finds
+// the next.
+fn close_pairs(
     deck: &[u8],
     limit: u32,
     edges: &mut [[u32; 3]],
@@ -146,14 +137,18 @@ fn close_by(
     v: RoleId,
     few: bool,
     index: &mut [u32],
+    ahead: &mut [u64],
+    known: &mut [u64],
 ) -> Step
     requires { ⌜ Ready (now deck) limit (now edges) t ⌝ }
     requires { ⌜ a .0 < roleCount (deckOf (now deck)) ⌝ }
     requires { ⌜ b .0 < roleCount (deckOf (now deck)) ⌝ }
     requires { ⌜ v .0 < roleCount (deckOf (now deck)) ⌝ }
+    requires { ⌜ Indexed (now edges) (t .elements) (t .edges) (now index) ⌝ }
+    requires { ⌜ t .elements ≤ length (now ahead) * 64 ⌝ }
+    requires { ⌜ t .elements ≤ length (now known) * 64 ⌝ }
     ensures { λ r. ⌜ Left limit (now (edges .entry)) (now (log .entry)) t (now (edges .exit)) (now (log .exit)) r (spec.closeRule (deckOf (now (deck .entry))) (t .elements) limit (a .0) (b .0) (v .0) (start (now (edges .entry)) (now (log .entry)) t)) ⌝ }
 {
-    make_index(edges, t.edges, t.elements, index);
     let end = t.elements as u64 * 65536;
     let mut after: u64 = 0;
     let mut held = t;
@@ -174,7 +169,20 @@ fn close_by(
             return Step::quiet(held);
         };
         let seen = held.edges;
-        let s = close_from(deck, limit, edges, log, held, seen, b, v, k, index);
+        let s = close_from(
+            deck,
+            limit,
+            edges,
+            log,
+            held,
+            seen,
+            b,
+            v,
+            k,
+            index,
+            ahead,
+            known,
+        );
         let tripped = s.tripped;
         if tripped {
             return s;
@@ -183,6 +191,44 @@ fn close_by(
         after = k + 1;
         refresh(edges, held.edges, held.elements, index);
     }
+}
+
+// By a rule, with room for an index, and for an element's ends.
+fn close_by(
+    deck: &[u8],
+    limit: u32,
+    edges: &mut [[u32; 3]],
+    log: &mut [u32],
+    t: Tally,
+    a: RoleId,
+    b: RoleId,
+    v: RoleId,
+    few: bool,
+    index: &mut [u32],
+) -> Step
+    requires { ⌜ Ready (now deck) limit (now edges) t ⌝ }
+    requires { ⌜ a .0 < roleCount (deckOf (now deck)) ⌝ }
+    requires { ⌜ b .0 < roleCount (deckOf (now deck)) ⌝ }
+    requires { ⌜ v .0 < roleCount (deckOf (now deck)) ⌝ }
+    ensures { λ r. ⌜ Left limit (now (edges .entry)) (now (log .entry)) t (now (edges .exit)) (now (log .exit)) r (spec.closeRule (deckOf (now (deck .entry))) (t .elements) limit (a .0) (b .0) (v .0) (start (now (edges .entry)) (now (log .entry)) t)) ⌝ }
+{
+    make_index(edges, t.edges, t.elements, index);
+    let mut ahead: [u64; 1024] = [0; 1024];
+    let mut known: [u64; 1024] = [0; 1024];
+    close_pairs(
+        deck,
+        limit,
+        edges,
+        log,
+        t,
+        a,
+        b,
+        v,
+        few,
+        index,
+        &mut ahead,
+        &mut known,
+    )
 }
 
 // Without an index, where a has no edge.

@@ -1,15 +1,16 @@
 // Tables for expanding by the facts: the facts by class, and the classes with a fact.
 ghost use mathlib.Core.Path.{_≡_};
-ghost use mathlib.Core.Bool.{cond, _&&_};
-ghost use Prim.Native.Nat.{ℕ, _+_, _*_, _/_, _^_, _<_, _≤_};
+ghost use mathlib.Core.Bool.{_&&_};
+ghost use Prim.Native.Nat.{ℕ, _+_, _*_, _<_, _≤_};
 ghost use lib.ListN.{length, getD, set};
 ghost use lib.Bits.{bitAnd};
-ghost use lib.Dec.{eqb};
 ghost use Rattle.deck.specs.Content.{IsAccepted, deckOf};
 ghost use Rattle.deck.specs.Deck.{classCount, factCount};
 ghost use Rattle.eval.specs.Lent.{labelWidth, memberIn};
 ghost use Rattle.model.specs.Label.{labelHas};
 ghost use Rattle.model.specs.FactIndex.{Indexed, Marked, Passed};
+use crate::labels::after;
+use crate::labels::from_bit;
 use crate::labels::insert_bit;
 use deck::classes::class_count;
 use deck::facts::fact_at;
@@ -83,14 +84,6 @@ fn and(a: u64, b: u64) -> u64
     a & b
 }
 
-// The word from bit b on.
-fn from_bit(w: u64, b: u64) -> u64
-    requires { ⌜ b < 64 ⌝ }
-    ensures { λ r. ⌜ r ≡ w / 2 ^ b ⌝ }
-{
-    w >> b
-}
-
 // The bits that word j of the label of e and of the mask share.
 fn shared(labels: &[u64], mask: &[u64], elements: u32, e: Element, width: usize, j: usize) -> u64
     requires { ⌜ elements * width ≤ length (now labels) ⌝ }
@@ -101,17 +94,6 @@ fn shared(labels: &[u64], mask: &[u64], elements: u32, e: Element, width: usize,
 {
     let i = cell(e.0 as usize, elements as usize, width, j, labels.len());
     and(labels[i], mask[j])
-}
-
-// The place after k, or the first of the next word where no bit is left in this one.
-fn after(rest: u64, k: u32) -> u32
-    requires { ⌜ k < 4096 ⌝ }
-    ensures { λ r. ⌜ r ≡ cond (eqb rest 0) ((k / 64 + 1) * 64) (k + 1) ⌝ }
-{
-    if rest == 0 {
-        return (k / 64 + 1) * 64;
-    }
-    k + 1
 }
 
 // The next class from k on that e has and that has its bit in the mask, or the number of classes.

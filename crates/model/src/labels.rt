@@ -1,8 +1,10 @@
 // A label: words of 64 bits, class k being bit k mod 64 of word k / 64. One in the making is a slice of its own.
 ghost use mathlib.Core.Path.{_≡_};
-ghost use Prim.Native.Nat.{_/_, _^_, _<_};
-ghost use lib.ListN.{length, replicate};
+ghost use mathlib.Core.Bool.{cond};
+ghost use Prim.Native.Nat.{ℕ, _+_, _*_, _/_, _^_, _<_, _≤_};
+ghost use lib.ListN.{length, getD, replicate};
 ghost use lib.Bits.{bitOr};
+ghost use lib.Dec.{eqb};
 ghost use Rattle.model.specs.Label.{labelHas, insertBit, joined};
 use deck::numbers::ClassId;
 use eval::labels::bit_of;
@@ -19,6 +21,14 @@ fn or(a: u64, b: u64) -> u64
     ensures { λ r. ⌜ r ≡ bitOr a b ⌝ }
 {
     a | b
+}
+
+// The word from bit b on.
+pub fn from_bit(w: u64, b: u64) -> u64
+    requires { ⌜ b < 64 ⌝ }
+    ensures { λ r. ⌜ r ≡ w / 2 ^ b ⌝ }
+{
+    w >> b
 }
 
 // Bit k of the words.
@@ -47,15 +57,24 @@ pub fn insert(label: &mut [u64], class: ClassId)
     insert_bit(label, class.0);
 }
 
+// The first n words become 0.
+pub fn clear_first(words: &mut [u64], n: usize)
+    requires { ⌜ n ≤ length (now words) ⌝ }
+    ensures { λ _. ⌜ ((k : ℕ) → k < n → getD (now (words .exit)) k 0 ≡ 0) ⌝ }
+{
+    let mut i = 0;
+    while i < n {
+        words[i] = 0;
+        i += 1;
+    }
+}
+
 // The label without a class.
 pub fn clear(label: &mut [u64])
     ensures { λ _. ⌜ now (label .exit) ≡ replicate (length (now (label .entry))) 0 ⌝ }
 {
-    let mut i = 0;
-    while i < label.len() {
-        label[i] = 0;
-        i += 1;
-    }
+    let all = label.len();
+    clear_first(label, all);
 }
 
 // The label takes another one's classes in.
@@ -68,4 +87,15 @@ pub fn join(label: &mut [u64], other: &[u64])
         label[i] = or(label[i], other[i]);
         i += 1;
     }
+}
+
+// The place after k, or the first of the next word where no bit is left in this one.
+pub fn after(rest: u64, k: u32) -> u32
+    requires { ⌜ k < 65536 ⌝ }
+    ensures { λ r. ⌜ r ≡ cond (eqb rest 0) ((k / 64 + 1) * 64) (k + 1) ⌝ }
+{
+    if rest == 0 {
+        return (k / 64 + 1) * 64;
+    }
+    k + 1
 }

@@ -3,6 +3,7 @@ mod antecedent;
 mod body;
 pub mod bounds;
 mod closing;
+mod ends;
 mod exists;
 mod expand;
 mod fact_index;

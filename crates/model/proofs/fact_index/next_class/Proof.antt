@@ -4,7 +4,8 @@ use Prim.Native.Nat.{_-_, _≤_}
 use denote.Ref.{now}
 use Rattle.deck.specs.Content.{deckOf}
 use Rattle.eval.specs.Lent.{labelWidth}
-use Rattle.model.proofs.PassLaws.{None, pass-start, pass-here, pass-step, pass-on, pass-rest, pass-end}
+use Rattle.model.proofs.WordLaws.{pass-on}
+use Rattle.model.proofs.PassLaws.{None, pass-start, pass-here, pass-step, pass-rest, pass-end}
 use Rattle.model.proofs.fact_index.next_class.Statement.{statement}
 use Rattle.model.proofs.fact_index.next_class.Tie as tie
 use Rattle.model.proofs.fact_index.next_class.Reads as reads

@@ -1,11 +1,7 @@
 use native.Mathlib.Omega.{arith}
-use mathlib.Core.Path.{sym}
 use borrow.Author.Tests.{eq-eqb, ne-eqb}
-use Rattle.model.proofs.CursorLaws.{cond-true, cond-false}
-use Rattle.model.proofs.fact_index.after.Statement.{statement}
-use Rattle.model.proofs.fact_index.after.Tie as tie
-use Rattle.model.proofs.fact_index.after.Reads as reads
-use Rattle.model.proofs.fact_index.after.Lts as lts
+use Rattle.model.proofs.labels.after.Statement.{statement}
+use Rattle.model.proofs.labels.after.Tie as tie
 
 add-result : tie.Need-add-result
 add-result c = omega (arith, c .before .pre)
@@ -14,13 +10,13 @@ mul-result : tie.Need-mul-result
 mul-result c = omega (arith, c .before .pre)
 
 returns : tie.Need-returns
-returns c = sym (cond-true _ _ _ (eq-eqb _ _ (c .if1 .taken)))
+returns c = rw (eq-eqb _ _ (c .if1 .taken))
 
 add-result-2 : tie.Need-add-result-2
 add-result-2 c = omega (arith, c .before .pre)
 
 returns-2 : tie.Need-returns-2
-returns-2 c = sym (cond-false _ _ _ (ne-eqb _ _ (c .if1 .left)))
+returns-2 c = rw (ne-eqb _ _ (c .if1 .left))
 
 pub after-spec : {M : Type 1} → statement M
 after-spec = tie.close (tie.spec add-result mul-result returns add-result-2 returns-2)
