@@ -38,6 +38,8 @@ pub mod ExistsLaws
 pub mod AntecedentLaws
 pub mod RoundLaws
 pub mod TriggerLaws
+pub mod StillLaws
+pub mod StandLaws
 pub mod KeepLaws
 pub mod ExpandKeeps
 pub mod TurnLaws

@@ -18,6 +18,7 @@ pub mod FactIndex
 pub mod Exists
 pub mod Rounds
 pub mod Triggers
+pub mod Still
 pub mod Phases
 pub mod Outcome
 pub mod Run

@@ -23,6 +23,7 @@ mod rounds;
 mod rules;
 pub mod run;
 mod seed;
+mod still;
 mod subsumers;
 pub mod tally;
 mod target_label;

@@ -1,6 +1,6 @@
 // Rounds of rules over the elements, until a round adds no element.
 ghost use mathlib.Core.Path.{_≡_};
-ghost use mathlib.Core.Bool.{true};
+ghost use mathlib.Core.Bool.{true, false};
 ghost use Prim.Native.Nat.{_-_, _<_, _≤_};
 ghost use Rattle.deck.specs.Content.{deckOf};
 ghost use Rattle.deck.specs.Deck.{Axiom, conceptCount, axiomAt, axiomCount};
@@ -9,11 +9,14 @@ ghost use Rattle.model.specs.Reasons.{boundTripped, noted, counted};
 ghost use Rattle.model.specs.Rounds as spec;
 ghost use Rattle.model.specs.Model.{lent, begun, Prepared, Built};
 ghost use Rattle.model.specs.Triggers.{Triggers};
+ghost use Rattle.model.specs.Still.{Stands};
 use crate::antecedent::fires;
 use crate::bounds::Bounds;
 use crate::exists::materialise_exists;
 use crate::reasons::Reason;
 use crate::reasons::note;
+use crate::still::Still;
+use crate::still::unchanged;
 use crate::tally::Step;
 use crate::tally::Tally;
 use crate::triggers::may_add;
@@ -132,7 +135,13 @@ fn fire_from(
     Step::quiet(held)
 }
 
-// From one member to each, where it fires at all.
+// The step of a member's pairs, and what is known of the members after it.
+pub struct Turn {
+    pub step: Step,
+    pub still: Still,
+}
+
+// From one member to each, where it fires at all and may change something.
 fn fire_member(
     deck: &[u8],
     bounds: Bounds,
@@ -145,16 +154,25 @@ fn fire_member(
     list: Span,
     a: ConceptId,
     e: Element,
-) -> Step
+    still: Still,
+) -> Turn
     requires { ⌜ Prepared (now deck) bounds (lent (now labels) (now edges) (now log)) t (now floor) (now label) ⌝ }
     requires { ⌜ ListFits (now deck) (conceptCount (deckOf (now deck))) list ⌝ }
     requires { ⌜ a .0 < conceptCount (deckOf (now deck)) ⌝ }
     requires { ⌜ e .0 < t .elements ⌝ }
-    ensures { λ r. ⌜ Built (deckOf (now (deck .entry))) bounds (lent (now (labels .entry)) (now (edges .entry)) (now (log .entry))) t (lent (now (labels .exit)) (now (edges .exit)) (now (log .exit))) (now (label .exit)) r
+    requires { ⌜ Stands (deckOf (now deck)) (now floor) bounds (e .0) (listOf (now deck) list) still (begun (deckOf (now deck)) (lent (now labels) (now edges) (now log)) t) ⌝ }
+    ensures built { λ r. ⌜ Built (deckOf (now (deck .entry))) bounds (lent (now (labels .entry)) (now (edges .entry)) (now (log .entry))) t (lent (now (labels .exit)) (now (edges .exit)) (now (log .exit))) (now (label .exit)) (r .step)
         (spec.fireFrom (deckOf (now (deck .entry))) (now (floor .entry)) bounds (e .0) (listOf (now (deck .entry)) list) (a .0) (begun (deckOf (now (deck .entry))) (lent (now (labels .entry)) (now (edges .entry)) (now (log .entry))) t)) ⌝ }
+    ensures stands { λ r. ⌜ (r .step .tripped ≡ false → Stands (deckOf (now (deck .entry))) (now (floor .entry)) bounds (e .0) (listOf (now (deck .entry)) list) (r .still) (begun (deckOf (now (deck .entry))) (lent (now (labels .exit)) (now (edges .exit)) (now (log .exit))) (r .step .tally))) ⌝ }
 {
+    if still.passes(a) {
+        return Turn {
+            step: Step::quiet(t),
+            still,
+        };
+    }
     if fires(deck, labels, t.elements, e, a) {
-        return fire_from(
+        let step = fire_from(
             deck,
             bounds,
             floor,
@@ -167,11 +185,19 @@ fn fire_member(
             a,
             e,
         );
+        let same = unchanged(t, step.tally);
+        return Turn {
+            step,
+            still: still.after(a, same),
+        };
     }
-    Step::quiet(t)
+    Turn {
+        step: Step::quiet(t),
+        still,
+    }
 }
 
-// From each member to each.
+// From each member to each, until none would change anything.
 fn fire_equivalent(
     deck: &[u8],
     bounds: Bounds,
@@ -193,8 +219,10 @@ fn fire_equivalent(
     let count = list.count;
     let mut i = 0;
     let mut held = t;
+    let mut still = Still::Unknown;
     while i < count {
-        let s = fire_member(
+        let a = ConceptId(item(deck, list, i));
+        let turn = fire_member(
             deck,
             bounds,
             floor,
@@ -204,14 +232,17 @@ fn fire_equivalent(
             log,
             held,
             list,
-            ConceptId(item(deck, list, i)),
+            a,
             e,
+            still,
         );
+        let s = turn.step;
         let tripped = s.tripped;
         if tripped {
             return s;
         }
         held = s.tally;
+        still = turn.still;
         i += 1;
     }
     Step::quiet(held)

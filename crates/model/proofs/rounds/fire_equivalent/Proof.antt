@@ -1,31 +1,36 @@
-use borrow.Author.Needs.{needs}
-use Prim.Native.Nat.{_-_, _≤_}
-use mathlib.Core.Path.{refl, sym, _∙_}
-use native.Mathlib.Omega.{arith}
-use denote.Ref.{now}
-use lib.ListN.{drop, drop-of-length-le}
-use Rattle.deck.specs.Content.{deckOf}
-use Rattle.model.specs.Model.{lent}
-use Rattle.model.proofs.BuildLaws.{built-trans, prepared-after, OnModel, model-start, model-done, model-stop, model-next}
+use Rattle.model.proofs.StandLaws.{stands-none}
 use Rattle.model.proofs.RoundLaws.{labels-size, from-stuck}
-use Rattle.deck.specs.Reads.{listOf}
-use Rattle.deck.proofs.TableLaws.{list-length}
-use Rattle.eval.proofs.Walks.{list-step}
+use Rattle.model.proofs.BuildLaws.{built-trans, prepared-after, OnModel, model-start, model-done, model-stop, model-next}
+use Rattle.model.specs.Still.{Stands}
 use Rattle.model.specs.Rounds.{fireFrom, fireAxiom}
+use Rattle.model.specs.Model.{lent, begun}
+use Rattle.eval.proofs.Walks.{list-step}
+use Rattle.deck.proofs.TableLaws.{list-length}
+use Rattle.deck.specs.Reads.{listOf}
+use Rattle.deck.specs.Content.{deckOf}
+use lib.ListN.{drop, drop-of-length-le}
+use denote.Ref.{now}
+use native.Mathlib.Omega.{arith}
+use mathlib.Core.Path.{refl, sym, _∙_}
+use Prim.Native.Nat.{_-_, _≤_}
+use borrow.Author.Needs.{needs}
 use Rattle.model.proofs.rounds.fire_equivalent.Statement.{statement}
 use Rattle.model.proofs.rounds.fire_equivalent.Tie as tie
 
 abbrev Inv-loop : tie.InvT-loop
-Inv-loop deck bounds floor label₀ labels₀ edges₀ log₀ list e count i₀ held₀ label labels edges log i held = (i ≤ count) × OnModel (deckOf deck) bounds (fireFrom (deckOf deck) floor bounds (e .0) (listOf deck list)) (listOf deck list) (drop i (listOf deck list)) (lent labels₀ edges₀ log₀) held₀ (lent labels edges log) label held
+Inv-loop deck bounds floor label₀ labels₀ edges₀ log₀ list e count i₀ held₀ still₀ label labels edges log i held still =
+    (i ≤ count)
+    × OnModel (deckOf deck) bounds (fireFrom (deckOf deck) floor bounds (e .0) (listOf deck list)) (listOf deck list) (drop i (listOf deck list)) (lent labels₀ edges₀ log₀) held₀ (lent labels edges log) label held
+    × Stands (deckOf deck) floor bounds (e .0) (listOf deck list) still (begun (deckOf deck) (lent labels edges log) held)
 
 abbrev μ-loop : tie.MeasureT-loop
-μ-loop deck bounds floor label₀ labels₀ edges₀ log₀ list e count i₀ held₀ label labels edges log i held = count - i
+μ-loop deck bounds floor label₀ labels₀ edges₀ log₀ list e count i₀ held₀ still₀ label labels edges log i held still = count - i
 
 loop-holds : tie.Need-loop-holds Inv-loop μ-loop
-loop-holds c = (omega arith, model-start _ _ (c .before .before .before .before .before .pre .0))
+loop-holds c = (omega arith, model-start _ _ (c .before .before .before .before .before .pre .0), stands-none _ _ _ _ _ _)
 
 item-requires : tie.Need-item-requires Inv-loop μ-loop
-item-requires c κs = let z = c .before .before .before .before .before .before .before .before .before .before .before in (z .pre .0 .accepted, (z .pre .1 .0 .within, omega arith))
+item-requires c κs = let z = c .before .before .before .before .before .before .before in (z .pre .0 .accepted, (z .pre .1 .0 .within, omega arith))
 
 fire-member-requires : tie.Need-fire-member-requires Inv-loop μ-loop
 fire-member-requires c κs =
@@ -33,40 +38,45 @@ fire-member-requires c κs =
     let z = c .before .before .before .before .before .before .before .before .before .before .before .before in
     let G = turn .inv .1 in
     let o = z .pre .1 .0 .below (turn .i) (omega (arith, list-length (now (z .args .deck)) (z .args .list .start) (z .args .list .count))) in
-    (prepared-after (z .pre .0) (G .built) refl, (z .pre .1 .0, (omega (arith, o, c .item .ensures), omega (arith, G .built .more, z .pre .1 .1))))
+    (prepared-after (z .pre .0) (G .built) refl, (z .pre .1 .0, (omega (arith, o, c .before .before .before .before .item .ensures), (omega (arith, G .built .more, z .pre .1 .1), turn .inv .2))))
 
 same-length : tie.Need-same-length Inv-loop μ-loop
-same-length c = c .before .before .before .before .before .before .before .before .fire-member .ensures .wide ∙ sym (c .before .before .before .before .before .before .before .before .before .before .before .before .before .before .before .before .before .before .before .before .before .pre .0 .label-wide)
+same-length c = c .before .before .before .before .before .before .before .before .before .fire-member .ensures .0 .wide ∙ sym (c .before .before .before .before .before .before .before .before .before .before .before .before .before .before .before .before .before .before .before .before .before .before .pre .0 .label-wide)
 
 same-length-2 : tie.Need-same-length-2 Inv-loop μ-loop
-same-length-2 c = labels-size (c .before .before .before .before .before .before .before .before .before .before .before .before .before .before .before .before .before .before .before .before .before .pre .0) (built-trans (c .before .before .before .before .before .before .before .before .before .before .before .before .before .before .before .loop .inv .1 .built) (c .before .before .before .before .before .before .before .before .fire-member .ensures))
+same-length-2 c = labels-size (c .before .before .before .before .before .before .before .before .before .before .before .before .before .before .before .before .before .before .before .before .before .before .pre .0) (built-trans (c .before .before .before .before .before .before .before .before .before .before .before .before .before .before .before .before .loop .inv .1 .built) (c .before .before .before .before .before .before .before .before .before .fire-member .ensures .0))
 
 same-length-3 : tie.Need-same-length-3 Inv-loop μ-loop
-same-length-3 c = c .before .before .before .before .before .before .before .before .fire-member .ensures .left .size ∙ c .before .before .before .before .before .before .before .before .before .before .before .before .before .before .before .loop .inv .1 .built .left .size
+same-length-3 c = c .before .before .before .before .before .before .before .before .before .fire-member .ensures .0 .left .size ∙ c .before .before .before .before .before .before .before .before .before .before .before .before .before .before .before .before .loop .inv .1 .built .left .size
 
 same-length-4 : tie.Need-same-length-4 Inv-loop μ-loop
-same-length-4 c = c .before .before .before .before .before .before .before .before .fire-member .ensures .left .log-size ∙ c .before .before .before .before .before .before .before .before .before .before .before .before .before .before .before .loop .inv .1 .built .left .log-size
+same-length-4 c = c .before .before .before .before .before .before .before .before .before .fire-member .ensures .0 .left .log-size ∙ c .before .before .before .before .before .before .before .before .before .before .before .before .before .before .before .before .loop .inv .1 .built .left .log-size
 
 returns : tie.Need-returns Inv-loop μ-loop
 unfolding fireAxiom
 returns c =
-    let z = c .before .before .before .before .before .before .before .before .before .before .before .before .before .before .before .before .before .before .before .before .before in
-    let turn = c .before .before .before .before .before .before .before .before .before .before .before .before .before .before .before .loop in
-    let h = c .before .before .before .before .before .before .before .before .before .before .before .before .before .before .loop-test .taken in
-    model-stop (turn .inv .1) (list-step 0 (listOf (now (z .args .deck)) (z .args .list)) (turn .i) (omega (arith, h, list-length (now (z .args .deck)) (z .args .list .start) (z .args .list .count)))) (rw (c .before .before .before .before .before .before .before .before .before .item .ensures) at (c .before .before .before .before .before .before .before .before .fire-member .ensures)) (λ x u w. from-stuck _ _ _ _ u w _ x) (c .if1 .taken)
+    let z = c .before .before .before .before .before .before .before .before .before .before .before .before .before .before .before .before .before .before .before .before .before .before in
+    let turn = c .before .before .before .before .before .before .before .before .before .before .before .before .before .before .before .before .loop in
+    let h = c .before .before .before .before .before .before .before .before .before .before .before .before .before .before .before .loop-test .taken in
+    model-stop (turn .inv .1) (list-step 0 (listOf (now (z .args .deck)) (z .args .list)) (turn .i) (omega (arith, h, list-length (now (z .args .deck)) (z .args .list .start) (z .args .list .count))))
+    (rw (c .before .before .before .before .before .before .before .before .before .before .before .before .before .before .item .ensures) at (c .before .before .before .before .before .before .before .before .before .fire-member .ensures .0)) (λ x u w. from-stuck _ _ _ _ u w _ x) (c .if1 .taken)
 
 add-i : tie.Need-add-i Inv-loop μ-loop
-add-i c = omega (arith, c .before .before .before .before .before .before .before .before .before .before .before .before .before .before .before .before .before .before .before .before .before .before .good)
+add-i c = omega (arith, c .before .before .before .before .before .before .before .before .before .before .before .before .before .before .before .before .before .before .before .before .before .before .before .good)
 
 loop-less : tie.Need-loop-less Inv-loop μ-loop
 loop-less c = omega arith
 
 loop-again : tie.Need-loop-again Inv-loop μ-loop
 loop-again c =
-    let z = c .before .before .before .before .before .before .before .before .before .before .before .before .before .before .before .before .before .before .before .before .before .before in
-    let turn = c .before .before .before .before .before .before .before .before .before .before .before .before .before .before .before .before .loop in
-    let h = c .before .before .before .before .before .before .before .before .before .before .before .before .before .before .before .loop-test .taken in
-    (omega (arith, h), model-next (turn .inv .1) (list-step 0 (listOf (now (z .args .deck)) (z .args .list)) (turn .i) (omega (arith, h, list-length (now (z .args .deck)) (z .args .list .start) (z .args .list .count)))) (rw (c .before .before .before .before .before .before .before .before .before .before .item .ensures) at (c .before .before .before .before .before .before .before .before .before .fire-member .ensures)) (c .before .if1 .left))
+    let z = c .before .before .before .before .before .before .before .before .before .before .before .before .before .before .before .before .before .before .before .before .before .before .before in
+    let turn = c .before .before .before .before .before .before .before .before .before .before .before .before .before .before .before .before .before .loop in
+    let h = c .before .before .before .before .before .before .before .before .before .before .before .before .before .before .before .before .loop-test .taken in (
+      omega (arith, h),
+      model-next (turn .inv .1) (list-step 0 (listOf (now (z .args .deck)) (z .args .list)) (turn .i) (omega (arith, h, list-length (now (z .args .deck)) (z .args .list .start) (z .args .list .count))))
+          (rw (c .before .before .before .before .before .before .before .before .before .before .before .before .before .before .before .item .ensures) at (c .before .before .before .before .before .before .before .before .before .before .fire-member .ensures .0)) (c .before .if1 .left),
+      c .before .before .before .before .before .before .before .before .before .before .fire-member .ensures .1 (c .before .if1 .left),
+    )
 
 quiet-requires : tie.Need-quiet-requires Inv-loop μ-loop
 quiet-requires c κs = search needs
@@ -93,4 +103,23 @@ returns-2 c = rw (c .quiet .ensures) (
 pub fire-equivalent-spec : {M : Type 1} → statement M
 fire-equivalent-spec =
     tie.close
-    (tie.spec Inv-loop μ-loop loop-holds item-requires fire-member-requires same-length same-length-2 same-length-3 same-length-4 returns add-i loop-less loop-again quiet-requires same-length-5 same-length-6 same-length-7 same-length-8 returns-2)
+    (tie.spec
+    Inv-loop
+    μ-loop
+    loop-holds
+    item-requires
+    fire-member-requires
+    same-length
+    same-length-2
+    same-length-3
+    same-length-4
+    returns
+    add-i
+    loop-less
+    loop-again
+    quiet-requires
+    same-length-5
+    same-length-6
+    same-length-7
+    same-length-8
+    returns-2)

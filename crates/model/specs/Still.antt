@@ -1,0 +1,42 @@
+-- What is known of the members of an EquivalentClasses axiom at an element: which of them, worked, would change nothing.
+use Prim.Native.Nat.{ℕ}
+use mathlib.Core.Bool.{Bool, true, false, cond, not, _&&_}
+use mathlib.Core.List.{List, List·Memᴰ as Member}
+use mathlib.Core.Path.{_≡_}
+use lib.Dec.{eqb, ltb}
+use Rattle.deck.specs.declared.numbers.ConceptId.{ConceptId}
+use Rattle.deck.specs.Deck.{Deck}
+use Rattle.model.specs.declared.bounds.Bounds.{Bounds}
+use Rattle.model.specs.declared.tally.Tally.{Tally}
+use Rattle.model.specs.declared.still.Still.{Still}
+use Rattle.model.specs.declared.still.Still.the-variants.{Unknown, Others, All}
+use Rattle.model.specs.Model.{Model}
+use Rattle.model.specs.Exists.{work}
+
+-- a member of that number would change nothing
+abbrev pub idles : Still → ℕ → Bool
+idles Unknown c = false
+idles (Others a) c = not (eqb c (a .0))
+idles All c = true
+
+pub record Stands (D : Deck) (floor : List ℕ) (B : Bounds) (e : ℕ) (l : List ℕ) (s : Still) (m : Model) : Type 0 where
+  pub idle : (c : ℕ) → Member c l → idles s c ≡ true → work D floor B c e m ≡ m
+
+-- the pairs from a member of that number need not be taken
+abbrev pub passes : Still → ConceptId → Bool
+passes Unknown a = false
+passes (Others b) a = eqb (a .0) (b .0)
+passes All a = true
+
+-- one more member whose pairs changed nothing
+abbrev pub joined : Still → ConceptId → Still
+joined Unknown a = Others a
+joined (Others b) a = All
+joined All a = All
+
+abbrev pub after : Still → ConceptId → Bool → Still
+after s a same = cond same (joined s a) Unknown
+
+-- the counts stand, and "the total stops at 4,294,967,295" hides no reason
+abbrev pub unchanged : Tally → Tally → Bool
+unchanged t u = eqb (t .elements) (u .elements) && (eqb (t .edges) (u .edges) && (eqb (t .reasons) (u .reasons) && ltb (u .reasons) 4294967295))
