@@ -187,9 +187,6 @@ module _ {D : Deck} {floor : List ℕ} {B : Bounds} {b : Buffers} {t : Tally} {b
     taking-below = highest-is taken (held .elements) (n - 1) one-up .0
 
     module _ (small : held .elements ≤ 65536) where
-      pub taking-place : (n - 1) / 64 < 1024
-      taking-place = omega (arith, taking-below)
-
       fewer : untaken taken 65536 ≡ suc (untaken (insertBit taken (n - 1)) 65536)
       fewer = untaken-take taken (n - 1) 65536 (omega (arith, taking-below)) (omega (arith, taking-below, G .size)) (highest-is taken (held .elements) (n - 1) one-up .1)
 

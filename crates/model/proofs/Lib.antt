@@ -31,6 +31,7 @@ pub mod FactIndexLaws
 pub mod PassLaws
 pub mod TailLaws
 pub mod RecallLaws
+pub mod AimLaws
 pub mod JudgingLaws
 pub mod NeedLaws
 pub mod BodyLaws

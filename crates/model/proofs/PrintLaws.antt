@@ -3,11 +3,11 @@ use mathlib.Core.Path.{_≡_, refl, sym, ap, _∙_, subst}
 use mathlib.Core.Bool.{Bool, true, false}
 use mathlib.Core.List.{List, [], _∷_, _++_}
 use mathlib.Core.Logic.{_⊎_, inl, inr, ⊎-elim}
-use Prim.Native.Nat.{ℕ, _+_, _*_, _≤_, _<_}
+use Prim.Native.Nat.{ℕ, _+_, _*_, _-_, _≤_, _<_}
 use native.Mathlib.Nat.{eq-or-lt-of-le}
 use native.Mathlib.Numerals.{add-one}
 use native.Mathlib.Omega.{arith}
-use lib.ListN.{length, getD, set, length-set, replicate, length-append, getD-replicate, length-replicate, List·getD-append}
+use lib.ListN.{length, getD, set, take, drop, length-set, replicate, length-append, getD-replicate, length-replicate, List·getD-append}
 use lib.Seq.{getD-set-same, getD-set-other, getD-append-seam}
 use lib.Dec.{eqb}
 use borrow.Author.Tests.{eq-eqb, ne-eqb, eqb-true}
@@ -18,7 +18,7 @@ use Rattle.model.specs.Rows.{rowAt, rowsOf}
 use Rattle.model.specs.Intern.{indexOf, interned}
 use Rattle.model.specs.Prints.{mixed, printTo, slotOf, Last, Chained}
 use Rattle.model.proofs.LabelLaws.{not-so, same-eq}
-use Rattle.model.proofs.RowLaws.{length-rows, rows-at}
+use Rattle.model.proofs.RowLaws.{length-rows, rows-at, rows-more}
 use Rattle.model.proofs.InternLaws.{index-found, index-none, interned-known, interned-new}
 
 -- ---- the fingerprint, word by word
@@ -117,7 +117,7 @@ sought-done size ls l found s =
     (lt-or-le found (length ls))
 
 -- ---- the table
-pub chained-none : (heads links : List ℕ) → 0 < length heads → ((h : ℕ) → h < length heads → getD heads h 0 ≡ 0) → Chained [] heads links
+chained-none : (heads links : List ℕ) → 0 < length heads → ((h : ℕ) → h < length heads → getD heads h 0 ≡ 0) → Chained [] heads links
 chained-none heads links some z =
     record {
       some = some;
@@ -214,6 +214,14 @@ module _ {ls : List (List ℕ)} {heads links : List ℕ} (c : Chained ls heads l
       subst (λ (m : ℕ). Last size (ls ++ (l ∷ [])) (slotOf size (getD (ls ++ (l ∷ [])) m [])) m (getD (set links (length ls) (getD heads h 0)) m 0)) t
       (rw (getD-set-same links (length ls) (getD heads h 0) 0 room, new size ls l, ← e) (last-kept size ls l h (length ls) (getD heads h 0) (omega arith) (c .head h b))))
       (lt-or-le k (length ls)))
+
+-- the same of the rows of a buffer: the next one becomes the first of its chain
+pub chained-row : (w n : ℕ) (buf heads links : List ℕ) → Chained (rowsOf w n buf) heads links → (at : ℕ) → at ≡ n * w → (h : ℕ) → (h ≡ slotOf (length heads) (take (at + w - at) (drop at buf))) × (h < length heads) → n < length links
+    → {heads′ links′ : List ℕ} → heads′ ≡ set heads h (n + 1) → links′ ≡ set links n (getD heads h 0) → Chained (rowsOf w (n + 1) buf) heads′ links′
+chained-row w n buf heads links c at e h s room p q =
+    let m : at + w - at ≡ w = omega arith in
+    let r = chained-more c (rowAt w buf (n * w)) h (rw (m, e) at (s .0)) (s .1) (omega (arith, room, length-rows w n buf)) in
+    rw (rows-more w n buf, p, q) (rw (length-rows w n buf) at r)
 
 -- ---- interning with the table
 module _ (w n : ℕ) (buf l heads links : List ℕ) (c : Chained (rowsOf w n buf) heads links) (e : ℕ) (at-e : e ≡ indexOf (rowsOf w n buf) l) where

@@ -1,6 +1,7 @@
 -- The elements of rows that are remembered: labels are only appended, so each stays where it is.
---     recalled-start, recalled-same, recalled-reach     no class, the same labels, a row interned
---     recall-link                                       the edge to a remembered element
+--     recalled-start, recalled-same     no class, the same labels
+--     recalled-reach, recalled-row      a row interned, a row found
+--     recall-link                       the edge to a remembered element
 use Prim.Native.Nat.{ℕ, zero, suc, _+_, _-_, _<_, _≤_}
 use mathlib.Core.Path.{_≡_, refl, sym, ap, _∙_, subst}
 use mathlib.Core.Bool.{Bool, true, false, cond}
@@ -9,16 +10,17 @@ use mathlib.Core.Logic.{⊎-elim}
 use native.Mathlib.Omega.{arith}
 use lib.ListN.{length, getD, set, length-set, length-append, length-replicate, replicate}
 use lib.Seq.{getD-set-same, getD-set-other}
-use Rattle.deck.specs.Deck.{Deck, classCount}
+use Rattle.deck.specs.Deck.{Deck, classCount, classAt}
 use Rattle.deck.specs.Content.{deckOf}
 use Rattle.deck.proofs.CaseLaws.{lt-or-le}
 use Rattle.eval.specs.Lent.{labelWidth}
 use Rattle.model.specs.declared.bounds.Bounds.{Bounds}
 use Rattle.model.specs.declared.tally.Tally.{Tally}
 use Rattle.model.specs.declared.tally.Step.{Step}
-use Rattle.model.specs.Label.{sameLabel}
+use Rattle.model.specs.Label.{sameLabel, labelOf}
 use Rattle.model.specs.Rows.{rowsOf}
 use Rattle.model.specs.Intern.{indexOf, interned}
+use Rattle.model.specs.Floor.{floored}
 use Rattle.model.specs.Seed.{rowLabel}
 use Rattle.model.specs.Push.{edge, pushEdge, start, Left}
 use Rattle.model.specs.Model.{Model, Buffers, lent, begun, Prepared, Built, reach}
@@ -104,8 +106,23 @@ recalled-reach {D} {floor} {ls} {known} R k el h p {ms} q {next} e = rw (q, e) (
         let o : getD (set known k (el + 1)) j 0 ≡ getD known j 0 = getD-set-other known k j (el + 1) 0 (λ s. n (sym s)) in
         omega (arith, o, R .below j (λ y. z (o ∙ y)), interned-more ls (rowLabel D floor k)))
 
+-- a row that is among the labels
+recalled-found : {D : Deck} {floor : List ℕ} {ls : List (List ℕ)} {known : List ℕ} → Recalled D floor ls known → (k el : ℕ) → k < classCount D → el ≡ indexOf ls (rowLabel D floor k)
+    → el < length ls → {next : List ℕ} → next ≡ set known k (el + 1) → Recalled D floor ls next
+recalled-found {D} {floor} {ls} R k el h p b e = recalled-reach R k el h p (sym (interned-known ls (rowLabel D floor k) (omega (arith, p, b)))) e
+
+-- the same, found in the buffer by a label that was loaded and took the floor in
+pub recalled-row : {D : Deck} {floor known : List ℕ} (n : ℕ) (buf : List ℕ) → Recalled D floor (rowsOf (labelWidth D) n buf) known → (k el : ℕ) (loaded label : List ℕ) → k < classCount D
+    → loaded ≡ labelOf (labelWidth D) (classAt D k .row) → label ≡ floored D floor loaded → el ≡ indexOf (rowsOf (length label) n buf) label → el < n
+    → {next : List ℕ} → next ≡ set known k (el + 1) → Recalled D floor (rowsOf (labelWidth D) n buf) next
+unfolding rowLabel
+recalled-row {D} {floor} n buf R k el loaded label h q p at b e =
+    let y : label ≡ rowLabel D floor k = p ∙ ap (floored D floor) q in
+    let w : length label ≡ labelWidth D = ap length y ∙ length-row-label D floor k in
+    recalled-found R k el h (at ∙ ap (λ (m : ℕ). indexOf (rowsOf m n buf) label) w ∙ ap (indexOf (rowsOf (labelWidth D) n buf)) y) (omega (arith, b, length-rows (labelWidth D) n buf)) e
+
 -- the labels that a step leaves
-pub built-rows : {D : Deck} {B : Bounds} {b : Buffers} {t : Tally} {b′ : Buffers} {l : List ℕ} {r : Step} {m : Model} → Built D B b t b′ l r m → rowsOf (labelWidth D) (r .tally .elements) (b′ .labels) ≡ m .labels
+built-rows : {D : Deck} {B : Bounds} {b : Buffers} {t : Tally} {b′ : Buffers} {l : List ℕ} {r : Step} {m : Model} → Built D B b t b′ l r m → rowsOf (labelWidth D) (r .tally .elements) (b′ .labels) ≡ m .labels
 built-rows X = held-rows (X .held)
 
 pub reach-rows : {D : Deck} {B : Bounds} {b : Buffers} {t : Tally} {b′ : Buffers} {l : List ℕ} {r : Step} {m : Model} → Built D B b t b′ l r m → (q x : ℕ) (row : List ℕ) → m ≡ reach B q x row (begun D b t)

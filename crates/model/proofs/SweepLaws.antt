@@ -137,7 +137,7 @@ module _ {limit : ℕ} {was now : List (List ℕ)} {log log′ : List ℕ} {t : 
           (sym (edges-at now (t .edges) j l (omega (arith, L .size, h))) ∙ ap (λ es. getD es j noEdge) (L .old) ∙ edges-at was (t .edges) j l h)
 
 -- every edge leaves one of the elements
-pub fits-from : (D : Deck) (n : ℕ) (rows : List (List ℕ)) (count : ℕ) → count ≤ length rows → EdgesFit D n (edgesOf rows count) → (j : ℕ) → j < count → fromAt rows j < n
+fits-from : (D : Deck) (n : ℕ) (rows : List (List ℕ)) (count : ℕ) → count ≤ length rows → EdgesFit D n (edgesOf rows count) → (j : ℕ) → j < count → fromAt rows j < n
 unfolding EdgesFit
 fits-from D n rows count h F j b =
     (rw (edges-at rows count j b h) at (F (getD (edgesOf rows count) j noEdge) (member-at noEdge (edgesOf rows count) j (omega (arith, b, edges-length rows count h))))) .from

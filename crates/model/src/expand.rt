@@ -28,6 +28,7 @@ use crate::push::push_edge;
 use crate::reach::reach;
 use crate::reasons;
 use crate::reasons::Reason;
+use crate::recall::recall_rows;
 use crate::subsumers::load_row;
 use crate::tally::Step;
 use crate::tally::Tally;
@@ -110,7 +111,7 @@ fn link_row(
     a.step
 }
 
-// The edge of the role from e to the target of y, by how that is labelled.
+// The edge of the role from e to the target of y, by how that is labelled: its reason first, if it has one.
 fn link_target(
     deck: &[u8],
     bounds: Bounds,
@@ -135,45 +136,32 @@ fn link_target(
         (spec.linkTarget (deckOf (now (deck .entry))) (now (floor .entry)) bounds (e .0) (y .0) (r .0) target (begun (deckOf (now (deck .entry))) (lent (now (labels .entry)) (now (edges .entry)) (now (log .entry))) t)) ⌝ }
     ensures recalled { λ s. ⌜ Recalled (deckOf (now (deck .entry))) (now (floor .entry)) (rowsOf (labelWidth (deckOf (now (deck .entry)))) (s .tally .elements) (now (labels .exit))) (now (known .exit)) ⌝ }
 {
-    match target {
-        Target::Row(k) => link_row(
-            deck,
-            bounds,
-            floor,
-            label,
-            labels,
-            edges,
-            log,
-            known,
-            t,
-            r,
-            e,
-            k,
-            since,
-        ),
+    let mut held = t;
+    let k = match target {
+        Target::Row(k) => k,
         Target::Delta(k) => {
-            let u = note(log, t, Reason::run_delta(y));
-            link_row(
-                deck,
-                bounds,
-                floor,
-                label,
-                labels,
-                edges,
-                log,
-                known,
-                u,
-                r,
-                e,
-                k,
-                since,
-            )
+            held = note(log, t, Reason::run_delta(y));
+            k
         }
         Target::NotClosed => {
-            let u = note(log, t, Reason::label_not_closed(y, r));
-            Step::quiet(u)
+            return Step::quiet(note(log, t, Reason::label_not_closed(y, r)));
         }
-    }
+    };
+    link_row(
+        deck,
+        bounds,
+        floor,
+        label,
+        labels,
+        edges,
+        log,
+        known,
+        held,
+        r,
+        e,
+        k,
+        since,
+    )
 }
 
 // A fact, where it is of class k.
@@ -537,6 +525,7 @@ fn expand_large(
     let mut mask: [u64; 64] = [0; 64];
     mark_facts(deck, &mut mask);
     let mut known: [u32; 4096] = [0; 4096];
+    recall_rows(deck, floor, label, labels, t.elements, &mut known);
     turns(
         deck,
         bounds,

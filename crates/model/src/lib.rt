@@ -19,6 +19,7 @@ mod prints;
 mod push;
 mod reach;
 mod reasons;
+mod recall;
 mod rounds;
 mod rules;
 pub mod run;

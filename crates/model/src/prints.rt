@@ -1,4 +1,4 @@
-// Labels found by fingerprint, for seeding: the elements of one slot are a chain, the last first. `heads` has one more than the
+// Labels found by fingerprint, for seeding and for the targets of facts: the elements of one slot are a chain, the last first. `heads` has one more than the
 // first of each chain, `links` one more than the next after each element, 0 being none.
 ghost use mathlib.Core.Path.{_≡_};
 ghost use Prim.Native.Nat.{_+_, _*_, _<_, _≤_};
@@ -42,7 +42,7 @@ fn fingerprint(label: &[u64]) -> u64
 }
 
 // The slot of a label in a table of so many.
-fn slot_of(label: &[u64], size: usize) -> usize
+pub fn slot_of(label: &[u64], size: usize) -> usize
     requires { ⌜ 0 < size ⌝ }
     ensures { λ r. ⌜ (r ≡ slotOf size (now (label .entry))) × (r < size) ⌝ }
 {
@@ -50,7 +50,7 @@ fn slot_of(label: &[u64], size: usize) -> usize
 }
 
 // The element whose label it is, or their number; h is the label's slot.
-fn find_by(
+pub fn find_by(
     labels: &[u64],
     elements: u32,
     label: &[u64],
@@ -78,7 +78,7 @@ fn find_by(
 }
 
 // A new element becomes the first of its chain.
-fn chain(heads: &mut [u32], links: &mut [u32], h: usize, element: u32)
+pub fn chain(heads: &mut [u32], links: &mut [u32], h: usize, element: u32)
     requires { ⌜ h < length (now heads) ⌝ }
     requires { ⌜ element < length (now links) ⌝ }
     requires { ⌜ element < 65536 ⌝ }

@@ -1,8 +1,10 @@
 use borrow.Author.Needs.{needs}
-use mathlib.Core.Path.{refl, ap}
-use Rattle.model.specs.Reasons.{runDelta, labelNotClosed}
-use Rattle.model.specs.Model.{reach}
-use Rattle.model.proofs.BuildLaws.{prepared-after, built-is, built-note, built-start, built-trans}
+use mathlib.Core.Path.{ap, _∙_}
+use mathlib.Core.Logic.{⊎-elim}
+use lib.ListN.{length}
+use Rattle.model.specs.Reasons.{labelNotClosed}
+use Rattle.model.proofs.BuildLaws.{built-is, built-note, built-trans}
+use Rattle.model.proofs.AimLaws.{aimed-row, aimed-delta, aimed-ready}
 use Rattle.model.proofs.expand.link_target.Statement.{statement}
 use Rattle.model.proofs.expand.link_target.Tie as tie
 use Rattle.model.proofs.expand.link_target.Reads as reads
@@ -10,9 +12,6 @@ use Rattle.model.proofs.expand.link_target.Lts as lts
 
 enum-known-target : tie.Need-enum-known-target
 enum-known-target c = search needs
-
-link-row-requires : tie.Need-link-row-requires
-link-row-requires c κs = (c .before .before .before .before .before .before .before .before .before .before .before .before .before .before .pre .0, (rw (c .before .before .before .before .before .before .target .given .1) at (c .before .before .before .before .before .before .before .before .before .before .before .before .before .before .pre .1 .0), (c .before .before .before .before .before .before .before .before .before .before .before .before .before .before .pre .1 .1 .0, c .before .before .before .before .before .before .before .before .before .before .before .before .before .before .pre .1 .1 .1)))
 
 enum-known-target-2 : tie.Need-enum-known-target-2
 enum-known-target-2 c = search needs
@@ -22,9 +21,6 @@ run-delta-requires c κs = search needs
 
 note-requires : tie.Need-note-requires
 note-requires c κs = search needs
-
-link-row-requires-2 : tie.Need-link-row-requires-2
-link-row-requires-2 c κs = (prepared-after (c .before .before .before .before .before .before .before .before .before .before .before .before .before .before .before .before .before .before .before .pre .0) (built-note (c .before .before .before .before .before .before .before .before .before .before .before .before .before .before .before .before .before .before .before .pre .0) (runDelta _) (rw (c .before .before .before .before .before .before .before .before .run-delta .ensures) at (c .before .before .before .before .before .before .before .note .ensures .0)) (c .before .before .before .before .before .before .before .note .ensures .1)) refl, (rw (c .before .before .before .before .before .before .before .before .before .before .before .target2 .given .1) at (c .before .before .before .before .before .before .before .before .before .before .before .before .before .before .before .before .before .before .before .pre .1 .0), (rw (c .before .before .before .before .before .before .before .note .ensures .1) (c .before .before .before .before .before .before .before .before .before .before .before .before .before .before .before .before .before .before .before .pre .1 .1 .0), rw (c .before .before .before .before .before .before .before .note .ensures .1) (c .before .before .before .before .before .before .before .before .before .before .before .before .before .before .before .before .before .before .before .pre .1 .1 .1))))
 
 enum-told : tie.Need-enum-told
 enum-told c = search needs
@@ -41,6 +37,18 @@ quiet-requires c κs = search needs
 same-length : tie.Need-same-length
 same-length c = search needs
 
+returns : tie.Need-returns
+returns c = rw (c .quiet .ensures) (rw (c .before .before .before .before .before .before .enum-told .given .1) (built-note (c .before .before .before .before .before .before .before .before .before .before .before .before .before .before .pre .0) (labelNotClosed _ _) (rw (c .before .before .before .before .label-not-closed .ensures) at (c .before .before .before .note2 .ensures .0)) (c .before .before .before .note2 .ensures .1)), rw (c .before .before .before .note2 .ensures .1) (c .before .before .before .before .before .before .before .before .before .before .before .before .before .before .pre .1 .1 .1))
+
+link-row-requires : tie.Need-link-row-requires
+link-row-requires c κs =
+    let P = c .before .before .before .before .before .before .before .before .before .before .before .before .pre in
+    let a = c .before .before .before .before .before .before .before .before .before .before .before .before .args in
+    aimed-ready (P .0) (a .e .0) (a .y .0) (a .r .0) {target = a .target} (⊎-elim
+    (λ w. aimed-row (P .0) _ _ _ (w .1 .given .1) (P .1 .0) (w .3) (w .4) (w .5))
+    (λ w. aimed-delta (P .0) _ _ _ (w .1 .given .1) (P .1 .0) (w .4 .ensures) (w .8 ∙ w .5 .ensures .0) (w .9 ∙ w .5 .ensures .1) (w .10))
+    (c .before .before .before .before .before .match .came)) (P .1 .1 .0) (P .1 .1 .1)
+
 same-length-2 : tie.Need-same-length-2
 same-length-2 c = search needs
 
@@ -51,35 +59,38 @@ same-length-4 : tie.Need-same-length-4
 same-length-4 c = search needs
 
 same-length-5 : tie.Need-same-length-5
-same-length-5 c = search needs
-
-returns : tie.Need-returns
-returns c = (rw (c .before .before .before .before .before .before .before .before .before .before .before .before .before .before .before .before .target .given .1) (c .before .before .before .before .before .before .before .before .before .link-row .ensures .0), c .before .before .before .before .before .before .before .before .before .link-row .ensures .1)
+same-length-5 c = c .before .before .before .before .before .before .before .before .before .link-row .kept .1 .1 .1 .1 .1 .1 .0 ∙ ⊎-elim (λ w. ap length (w .3)) (λ w. ap length (w .8) ∙ w .5 .kept .0) (c .before .before .before .before .before .before .before .before .before .before .before .before .before .before .before .match .came)
 
 same-length-6 : tie.Need-same-length-6
 same-length-6 c = search needs
 
-same-length-7 : tie.Need-same-length-7
-same-length-7 c = search needs
-
-same-length-8 : tie.Need-same-length-8
-same-length-8 c = search needs
-
-same-length-9 : tie.Need-same-length-9
-same-length-9 c = search needs
-
-same-length-10 : tie.Need-same-length-10
-same-length-10 c = search needs
-
 returns-2 : tie.Need-returns-2
-returns-2 c = let N = built-note (c .before .before .before .before .before .before .before .before .before .before .before .before .before .before .before .before .before .before .before .before .before .before .before .before .before .before .before .before .before .pre .0) (runDelta _) (rw (c .before .before .before .before .before .before .before .before .before .before .before .before .before .before .before .before .before .before .run-delta .ensures) at (c .before .before .before .before .before .before .before .before .before .before .before .before .before .before .before .before .before .note .ensures .0)) (c .before .before .before .before .before .before .before .before .before .before .before .before .before .before .before .before .before .note .ensures .1) in
-    (rw (c .before .before .before .before .before .before .before .before .before .before .before .before .before .before .before .before .before .before .before .before .before .target2 .given .1) (built-is (built-trans N (c .before .before .before .before .before .before .before .before .before .link-row2 .ensures .0)) (ap (reach _ _ _ _) (built-start N refl))), c .before .before .before .before .before .before .before .before .before .link-row2 .ensures .1)
-
-same-length-11 : tie.Need-same-length-11
-same-length-11 c = search needs
-
-returns-3 : tie.Need-returns-3
-returns-3 c = rw (c .quiet .ensures) (rw (c .before .before .before .before .before .before .enum-told .given .1) (built-note (c .before .before .before .before .before .before .before .before .before .before .before .before .before .before .pre .0) (labelNotClosed _ _) (rw (c .before .before .before .before .label-not-closed .ensures) at (c .before .before .before .note2 .ensures .0)) (c .before .before .before .note2 .ensures .1)), rw (c .before .before .before .note2 .ensures .1) (c .before .before .before .before .before .before .before .before .before .before .before .before .before .before .pre .1 .1 .1))
+returns-2 c =
+    let P = c .before .before .before .before .before .before .before .before .before .before .before .before .before .before .before .before .before .before .before .before .before .before .pre in
+    let A = ⊎-elim
+    (λ w. aimed-row (P .0) _ _ _ (w .1 .given .1) (P .1 .0) (w .3) (w .4) (w .5))
+    (λ w. aimed-delta (P .0) _ _ _ (w .1 .given .1) (P .1 .0) (w .4 .ensures) (w .8 ∙ w .5 .ensures .0) (w .9 ∙ w .5 .ensures .1) (w .10))
+    (c .before .before .before .before .before .before .before .before .before .before .before .before .before .before .before .match .came) in
+    (built-is (built-trans (A .done) (c .before .before .before .before .before .before .before .before .before .link-row .ensures .0)) (A .link), c .before .before .before .before .before .before .before .before .before .link-row .ensures .1)
 
 pub link-target-spec : {M : Type 1} → statement M
-link-target-spec = tie.close (tie.spec enum-known-target link-row-requires enum-known-target-2 run-delta-requires note-requires link-row-requires-2 enum-told label-not-closed-requires note-requires-2 quiet-requires same-length same-length-2 same-length-3 same-length-4 same-length-5 returns same-length-6 same-length-7 same-length-8 same-length-9 same-length-10 returns-2 same-length-11 returns-3)
+link-target-spec =
+    tie.close
+    (tie.spec
+    enum-known-target
+    enum-known-target-2
+    run-delta-requires
+    note-requires
+    enum-told
+    label-not-closed-requires
+    note-requires-2
+    quiet-requires
+    same-length
+    returns
+    link-row-requires
+    same-length-2
+    same-length-3
+    same-length-4
+    same-length-5
+    same-length-6
+    returns-2)
