@@ -20,10 +20,14 @@ pub fn text_room() -> [u8; 204864]
 }
 
 // Writes the text to the start of `out` and answers its length; 0 where `out` is too short for it, and then nothing is written.
+// Where `out` has room for any text, it is made there at once.
 pub fn report(input: &[u8], out: &mut [u8]) -> usize
     ensures is { λ r. ⌜ reported r (now (out .exit)) ≡ Text·report (now (input .entry)) (now (out .entry)) ⌝ }
     ensures confirmed { λ r. ⌜ (take 9 (take r (now (out .exit))) ≡ outcomeWord Outcome.Confirmed → Confirms (now (input .entry))) ⌝ }
 {
+    if 204864 <= out.len() {
+        return put_text(out, input);
+    }
     let mut text = text_room();
     let n = put_text(&mut text, input);
     if out.len() < n {
