@@ -1,12 +1,15 @@
 -- Judging all axioms: the words stored so far, and what is still to come. Assumes nothing.
-use Prim.Native.Nat.{ℕ, suc, _+_, _*_, _<_, _≤_}
+use Prim.Native.Nat.{ℕ, suc, _+_, _-_, _*_, _<_, _≤_}
 use mathlib.Core.Bool.{Bool, true, false, _||_, or-false}
 use mathlib.Core.Path.{_≡_, refl, sym, ap, _∙_}
 use mathlib.Core.List.{List, [], _∷_, _++_, map, flatMap}
 use native.Mathlib.Omega.{arith}
 use lib.ListN.{length, getD, drop, drop-of-length-le, length-append}
 use lib.Seq.{sets, sets-eq, length-sets}
+use Rattle.deck.specs.declared.axioms.AxiomRecord.{AxiomRecord}
+use Rattle.deck.specs.Content.{axiomOf, deckOf}
 use Rattle.deck.specs.Deck.{Deck, Axiom, axiomAt, axiomCount}
+use Rattle.deck.specs.Reads.{AxiomRead}
 use Rattle.eval.specs.declared.verdict.Verdict.{Verdict}
 use Rattle.eval.specs.declared.verdict.Verdict.the-variants.{Holds, Fails, UnhandledAxiom, UnhandledConcept, GuardedRoleHasEdges}
 use Rattle.eval.specs.declared.verdict.Witnesses.the-variants.{One, Two, Three}
@@ -26,6 +29,11 @@ pub put-sets : {A : Type 0} (buf xs : List A) → length xs ≤ length buf → s
 unfolding put
 put-sets buf xs h = let z : 0 + length xs ≡ length xs = omega arith in rw z at (sets-eq xs buf 0 (omega arith))
 
+-- two axioms whose records are the same
+pub same-record : (s : List ℕ) (a b : ℕ) {r q : AxiomRecord} → AxiomRead s a r → AxiomRead s b q → r .tag ≡ q .tag → r .first ≡ q .first → r .second ≡ q .second → r .third ≡ q .third → axiomAt (deckOf s) a ≡ axiomAt (deckOf s) b
+same-record s a b {r} {q} R Q t x y z =
+    sym (R .is) ∙ ap (λ n. axiomOf s n (r .first) (r .second) (r .third)) t ∙ ap (λ n. axiomOf s (q .tag) n (r .second) (r .third)) x ∙ ap (λ n. axiomOf s (q .tag) (q .first) n (r .third)) y ∙ ap (axiomOf s (q .tag) (q .first) (q .second)) z ∙ Q .is
+
 -- a verdict has four words
 pub four-words : (v : Verdict) → getD (wordsOf v) 0 0 ∷ getD (wordsOf v) 1 0 ∷ getD (wordsOf v) 2 0 ∷ getD (wordsOf v) 3 0 ∷ [] ≡ wordsOf v
 four-words Holds = refl
@@ -43,6 +51,10 @@ pub length-words : (v : Verdict) → length (wordsOf v) ≡ 4
 length-words v = ap length (sym (four-words v))
 
 module _ (D : Deck) (S : Structure) where
+  -- the axiom before the next is this one
+  pub last-next : (i : ℕ) {v : Verdict} → v ≡ verdict D S (axiomAt D i) → v ≡ verdict D S (axiomAt D (i + 1 - 1))
+  last-next i p = p ∙ ap (λ n. verdict D S (axiomAt D n)) (omega arith)
+
   pub length-all : (l : List Axiom) → length (wordsIn (map (verdict D S) l)) ≡ 4 * length l
   unfolding flatMap
   length-all [] = refl

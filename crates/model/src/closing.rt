@@ -274,7 +274,8 @@ fn close_small(
     close_by(deck, limit, edges, log, t, a, b, v, few, &mut index)
 }
 
-// With one of more words.
+// With one of more words. Here and in `close_large` the last call is never made, as there are at most 65,536 elements: a
+// function that calls itself has a frame of its own, so that its room is made only where it is needed.
 fn close_middle(
     deck: &[u8],
     limit: u32,
@@ -293,7 +294,11 @@ fn close_middle(
     ensures { λ r. ⌜ Left limit (now (edges .entry)) (now (log .entry)) t (now (edges .exit)) (now (log .exit)) r (spec.closeRule (deckOf (now (deck .entry))) (t .elements) limit (a .0) (b .0) (v .0) (start (now (edges .entry)) (now (log .entry)) t)) ⌝ }
 {
     let mut index: [u32; 40960] = [0; 40960];
-    close_by(deck, limit, edges, log, t, a, b, v, few, &mut index)
+    let s = close_by(deck, limit, edges, log, t, a, b, v, few, &mut index);
+    if 65536 < t.elements {
+        return close_middle(deck, limit, edges, log, t, a, b, v, few);
+    }
+    s
 }
 
 // With one for as many elements as there can be.
@@ -315,7 +320,11 @@ fn close_large(
     ensures { λ r. ⌜ Left limit (now (edges .entry)) (now (log .entry)) t (now (edges .exit)) (now (log .exit)) r (spec.closeRule (deckOf (now (deck .entry))) (t .elements) limit (a .0) (b .0) (v .0) (start (now (edges .entry)) (now (log .entry)) t)) ⌝ }
 {
     let mut index: [u32; 163840] = [0; 163840];
-    close_by(deck, limit, edges, log, t, a, b, v, few, &mut index)
+    let s = close_by(deck, limit, edges, log, t, a, b, v, few, &mut index);
+    if 65536 < t.elements {
+        return close_large(deck, limit, edges, log, t, a, b, v, few);
+    }
+    s
 }
 
 // Whether to look at all edges for each of the pairs costs less than to go through the elements.

@@ -1,20 +1,22 @@
 // All axioms, judged in the structure that was built.
 ghost use mathlib.Core.Path.{_≡_};
-ghost use mathlib.Core.Bool.{_||_};
+ghost use mathlib.Core.Bool.{true, _||_};
 ghost use mathlib.Core.List.{[], _∷_, map};
-ghost use Prim.Native.Nat.{_+_, _*_, _≤_};
+ghost use Prim.Native.Nat.{_+_, _-_, _*_, _<_, _≤_};
 ghost use lib.Dec.{ltb};
 ghost use lib.ListN.{length};
 ghost use lib.Seq.{sets};
-ghost use Rattle.deck.specs.Content.{deckOf};
-ghost use Rattle.deck.specs.Deck.{axiomCount};
+ghost use Rattle.deck.specs.Content.{IsAccepted, deckOf};
+ghost use Rattle.deck.specs.Deck.{axiomCount, axiomAt};
 ghost use Rattle.eval.specs.Lists.{any};
 ghost use Rattle.eval.specs.Equipped.{Blank, Equipped};
 ghost use Rattle.eval.specs.Lent.{Fits, structureOf};
+ghost use Rattle.eval.specs.Verdict.{verdict};
 ghost use Rattle.model.specs.Rows.{put};
 ghost use Rattle.model.specs.Outcome.{isFails, isUnresolved, outcomeBy};
 ghost use Rattle.model.specs.Run.{verdictsIn, wordsIn};
 use crate::outcome::Outcome;
+use deck::axioms::axiom_at;
 use deck::axioms::axiom_count;
 use deck::concepts::concept_count;
 use eval::axioms::check_axiom;
@@ -84,6 +86,52 @@ fn store_words(verdicts: &mut [u32], at: usize, a: u32, b: u32, c: u32, d: u32)
     verdicts[at + 3] = d;
 }
 
+// Have two axioms the same record? Then they are the same axiom.
+fn same_axiom(deck: &[u8], a: u32, b: u32) -> bool
+    requires { ⌜ IsAccepted (now deck) ⌝ }
+    requires { ⌜ a < axiomCount (deckOf (now deck)) ⌝ }
+    requires { ⌜ b < axiomCount (deckOf (now deck)) ⌝ }
+    ensures { λ r. ⌜ (r ≡ true → axiomAt (deckOf (now (deck .entry))) a ≡ axiomAt (deckOf (now (deck .entry))) b) ⌝ }
+{
+    let one = axiom_at(deck, a);
+    let other = axiom_at(deck, b);
+    if one.tag != other.tag {
+        return false;
+    }
+    if one.first != other.first {
+        return false;
+    }
+    if one.second != other.second {
+        return false;
+    }
+    one.third == other.third
+}
+
+// The verdict of an axiom: that of the axiom before it, `before`, where the two are the same.
+fn judge_next(
+    deck: &[u8],
+    labels: &[u64],
+    edges: &[[u32; 3]],
+    shape: Shape,
+    index: &[u32],
+    memo: &mut [u16],
+    axiom: u32,
+    before: Verdict,
+) -> Verdict
+    requires { ⌜ Equipped (now deck) (now labels) (now edges) shape (now index) (now memo) ⌝ }
+    requires { ⌜ «axiom» < axiomCount (deckOf (now deck)) ⌝ }
+    requires { ⌜ (0 < «axiom» → before ≡ verdict (deckOf (now deck)) (structureOf (deckOf (now deck)) (now labels) (now edges) shape) (axiomAt (deckOf (now deck)) («axiom» - 1))) ⌝ }
+    ensures is { λ v. ⌜ v ≡ verdict (deckOf (now (deck .entry))) (structureOf (deckOf (now (deck .entry))) (now (labels .entry)) (now (edges .entry)) shape) (axiomAt (deckOf (now (deck .entry))) «axiom») ⌝ }
+    ensures kept { λ _. ⌜ Equipped (now (deck .entry)) (now (labels .entry)) (now (edges .entry)) shape (now (index .entry)) (now (memo .exit)) ⌝ }
+{
+    if 0 < axiom {
+        if same_axiom(deck, axiom - 1, axiom) {
+            return before;
+        }
+    }
+    check_axiom(deck, labels, edges, shape, index, memo, axiom)
+}
+
 // The words of each axiom's verdict, in order.
 fn judge_each(
     deck: &[u8],
@@ -105,9 +153,10 @@ fn judge_each(
         fails: false,
         unresolved: false,
     };
+    let mut verdict = Verdict::Holds;
     let mut i: u32 = 0;
     while i < count {
-        let verdict = check_axiom(deck, labels, edges, shape, index, memo, i);
+        verdict = judge_next(deck, labels, edges, shape, index, memo, i, verdict);
         let w = verdict_words(verdict);
         store_words(verdicts, i as usize * 4, w[0], w[1], w[2], w[3]);
         judged = add(judged, verdict);
@@ -155,6 +204,8 @@ fn judge_small(
     judge_over(deck, labels, edges, shape, &mut index, &mut memo, verdicts)
 }
 
+// Here the last call is never made, as there are at most 65,536 elements: a function that calls itself has a frame of its own,
+// so that this room, of 1.2 MB, is made only for a structure that needs it.
 fn judge_large(
     deck: &[u8],
     labels: &[u64],
@@ -170,7 +221,11 @@ fn judge_large(
 {
     let mut index: [u32; 163843] = [0; 163843];
     let mut memo: [u16; 262139] = [0; 262139];
-    judge_over(deck, labels, edges, shape, &mut index, &mut memo, verdicts)
+    let judged = judge_over(deck, labels, edges, shape, &mut index, &mut memo, verdicts);
+    if 65536 < shape.elements {
+        return judge_large(deck, labels, edges, shape, verdicts);
+    }
+    judged
 }
 
 // The same, in the room that the structure needs.

@@ -141,7 +141,7 @@ pub fn recall_rows(
     requires { ⌜ Recalled (deckOf (now deck)) (now floor) (rowsOf (labelWidth (deckOf (now deck))) elements (now labels)) (now known) ⌝ }
     ensures { λ _. ⌜ Recalled (deckOf (now (deck .entry))) (now (floor .entry)) (rowsOf (labelWidth (deckOf (now (deck .entry)))) elements (now (labels .entry))) (now (known .exit)) ⌝ }
 {
-    if fact_count(deck) <= 512 {
+    if fact_count(deck) <= 128 {
         return;
     }
     if 4096 < elements {
