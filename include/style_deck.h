@@ -12,7 +12,7 @@
  * answers stands in the first four words of `answer`, and words past the used part of any buffer are as they were. `answer`
  * needs at least STYLE_DECK_ANSWER_WORDS words: a shorter one is refused as 9, before anything else is looked at.
  *
- * Stack: a call goes as deep as the deck's concepts nest, at most 16,384 levels. The deepest deck takes less than 7,700 KB in
+ * Stack: a call goes as deep as the deck's concepts nest, at most 16,384 levels. The deepest deck takes less than 6,700 KB in
  * a run; STYLE_DECK_STACK_BYTES are enough for every deck. A program that is handed decks by others makes its calls on a thread
  * with that much.
  */

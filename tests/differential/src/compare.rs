@@ -171,6 +171,8 @@ fn count_deck(tally: &mut Tally, parts: &Parts) {
         ("ranges", parts.roles.iter().any(|role| role[3] > 0)),
         ("sub-roles", parts.roles.iter().any(|role| role[1] > 1)),
         ("a universal subclass", parts.axioms.iter().any(|axiom| axiom[0] == 0 && universal(axiom[1]))),
+        ("an axiom right after itself", parts.axioms.windows(2).any(|pair| pair[0] == pair[1])),
+        ("EquivalentClasses of four members or more", parts.axioms.iter().any(|axiom| axiom[0] == 1 && axiom[2] > 3)),
         ("repeated members", lists.any(|record| repeats(parts.list(record[1], record[2])))),
         ("labels of two words or three", parts.width() > 1),
         ("three nested Somes or more", somes > 2),

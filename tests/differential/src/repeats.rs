@@ -1,5 +1,5 @@
 //! What is met more than once, added to a deck: edges of several sub-roles between the same elements, nested Somes,
-//! operands shared on many levels. And lent edges that repeat.
+//! operands shared on many levels, wide lists of classes and roles, axioms that come again. And lent edges that repeat.
 use crate::generate::list;
 use crate::parts::Parts;
 use crate::rng::Rng;
@@ -21,6 +21,12 @@ pub fn add(rng: &mut Rng, parts: &mut Parts) {
     }
     if rng.chance(18) {
         shared(rng, &mut more);
+    }
+    if rng.chance(12) && !more.roles.is_empty() {
+        wide(rng, &mut more);
+    }
+    if rng.chance(12) && !more.axioms.is_empty() {
+        again(rng, &mut more);
     }
     if is_quick(&more, 2) {
         *parts = more;
@@ -189,6 +195,44 @@ fn shared(rng: &mut Rng, parts: &mut Parts) {
         }
     }
     used(rng, parts, top);
+}
+
+/// EquivalentClasses of four to nine members, atoms and Somes, some of them repeated; or EquivalentObjectProperties of as
+/// many role words, mostly named.
+fn wide(rng: &mut Rng, parts: &mut Parts) {
+    let count = 4 + rng.below(6);
+    if rng.chance(30) {
+        let words: Vec<u32> = (0..count).map(|_| named(rng, parts) + u32::from(rng.chance(2))).collect();
+        let [start, count] = list(rng, parts, &words);
+        return put(rng, &mut parts.axioms, [6, start, count, 0]);
+    }
+    let mut members: Vec<u32> = Vec::new();
+    for _ in 0..count {
+        let member = match rng.below(6) {
+            0 | 1 => atom(rng, parts),
+            2 | 3 => {
+                let (word, body) = (named(rng, parts), atom(rng, parts));
+                push(parts, [8, word, body, 0])
+            }
+            4 if !members.is_empty() => rng.pick(&members),
+            _ => base(rng, parts),
+        };
+        members.push(member);
+    }
+    let [start, count] = list(rng, parts, &members);
+    put(rng, &mut parts.axioms, [1, start, count, 0]);
+}
+
+/// An axiom that comes again right after itself, or all but the same.
+fn again(rng: &mut Rng, parts: &mut Parts) {
+    let at = rng.below(parts.axioms.len());
+    let mut copy = parts.axioms[at];
+    if rng.chance(25) {
+        copy = parts.axioms[rng.below(parts.axioms.len())];
+    }
+    for _ in 0..1 + rng.below(3) {
+        parts.axioms.insert(at + 1, copy);
+    }
 }
 
 /// Lent edges: runs of one element, elements that come back, and copies of edges that are there already.
