@@ -23,10 +23,10 @@ use deck::numbers::Element;
 // Does the small room hold the index of any structure of this shape, and a word for each concept below `concepts` at each
 // element?
 pub fn is_small(shape: Shape, concepts: u32) -> bool
-    ensures { λ r. ⌜ r ≡ (ltb (shape .edges) 2049 && ltb (shape .elements * concepts) 4094) ⌝ }
+    ensures { λ r. ⌜ r ≡ (ltb (shape .edges) 513 && ltb (shape .elements * concepts) 2040) ⌝ }
 {
-    if shape.edges < 2049 {
-        return (shape.elements as u64) * (concepts as u64) < 4094;
+    if shape.edges < 513 {
+        return (shape.elements as u64) * (concepts as u64) < 2040;
     }
     false
 }
@@ -81,8 +81,8 @@ fn concept_small(
     requires { ⌜ e .0 < shape .elements ⌝ }
     ensures is { λ j. ⌜ j ≡ judge (deckOf (now (deck .entry))) (structureOf (deckOf (now (deck .entry))) (now (labels .entry)) (now (edges .entry)) shape) (concept .0) (e .0) ⌝ }
 {
-    let mut index: [u32; 8192] = [0; 8192];
-    let mut memo: [u16; 4093] = [0; 4093];
+    let mut index: [u32; 2048] = [0; 2048];
+    let mut memo: [u16; 2039] = [0; 2039];
     concept_over(
         deck,
         labels,
@@ -95,6 +95,8 @@ fn concept_small(
     )
 }
 
+// Here and in `axiom_large` the last call is never made, as there are at most 65,536 elements: a function that calls itself has
+// a frame of its own, so that its room, of 1.2 MB, is made only for a structure that needs it.
 fn concept_large(
     deck: &[u8],
     labels: &[u64],
@@ -110,7 +112,7 @@ fn concept_large(
 {
     let mut index: [u32; 163843] = [0; 163843];
     let mut memo: [u16; 262139] = [0; 262139];
-    concept_over(
+    let judgement = concept_over(
         deck,
         labels,
         edges,
@@ -119,7 +121,11 @@ fn concept_large(
         &mut memo,
         concept,
         e,
-    )
+    );
+    if 65536 < shape.elements {
+        return concept_large(deck, labels, edges, shape, concept, e);
+    }
+    judgement
 }
 
 // Is element e in the concept?
@@ -168,8 +174,8 @@ fn axiom_small(deck: &[u8], labels: &[u64], edges: &[[u32; 3]], shape: Shape, ax
     ensures is { λ v. ⌜ v ≡ verdict (deckOf (now (deck .entry))) (structureOf (deckOf (now (deck .entry))) (now (labels .entry)) (now (edges .entry)) shape) (axiomAt (deckOf (now (deck .entry))) «axiom») ⌝ }
     ensures justified { λ v. ⌜ Justified (deckOf (now (deck .entry))) (structureOf (deckOf (now (deck .entry))) (now (labels .entry)) (now (edges .entry)) shape) (axiomAt (deckOf (now (deck .entry))) «axiom») v ⌝ }
 {
-    let mut index: [u32; 8192] = [0; 8192];
-    let mut memo: [u16; 4093] = [0; 4093];
+    let mut index: [u32; 2048] = [0; 2048];
+    let mut memo: [u16; 2039] = [0; 2039];
     axiom_over(deck, labels, edges, shape, &mut index, &mut memo, axiom)
 }
 
@@ -181,7 +187,11 @@ fn axiom_large(deck: &[u8], labels: &[u64], edges: &[[u32; 3]], shape: Shape, ax
 {
     let mut index: [u32; 163843] = [0; 163843];
     let mut memo: [u16; 262139] = [0; 262139];
-    axiom_over(deck, labels, edges, shape, &mut index, &mut memo, axiom)
+    let verdict = axiom_over(deck, labels, edges, shape, &mut index, &mut memo, axiom);
+    if 65536 < shape.elements {
+        return axiom_large(deck, labels, edges, shape, axiom);
+    }
+    verdict
 }
 
 // Is the axiom satisfied?

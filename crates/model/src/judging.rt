@@ -199,13 +199,13 @@ fn judge_small(
     ensures fails { λ r. ⌜ r .fails ≡ any (map isFails (verdictsIn (deckOf (now (deck .entry))) (structureOf (deckOf (now (deck .entry))) (now (labels .entry)) (now (edges .entry)) shape))) ⌝ }
     ensures unresolved { λ r. ⌜ r .unresolved ≡ any (map isUnresolved (verdictsIn (deckOf (now (deck .entry))) (structureOf (deckOf (now (deck .entry))) (now (labels .entry)) (now (edges .entry)) shape))) ⌝ }
 {
-    let mut index: [u32; 8192] = [0; 8192];
-    let mut memo: [u16; 4093] = [0; 4093];
+    let mut index: [u32; 2048] = [0; 2048];
+    let mut memo: [u16; 2039] = [0; 2039];
     judge_over(deck, labels, edges, shape, &mut index, &mut memo, verdicts)
 }
 
-// Here the last call is never made, as there are at most 65,536 elements: a function that calls itself has a frame of its own,
-// so that this room, of 1.2 MB, is made only for a structure that needs it.
+// The last call is never made, as there are at most 65,536 elements: as in eval's `concept_large`, this room has a frame of its
+// own.
 fn judge_large(
     deck: &[u8],
     labels: &[u64],

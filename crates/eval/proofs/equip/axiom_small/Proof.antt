@@ -14,7 +14,7 @@ slice-aggregate-axiom-over-2 : tie.Need-slice-aggregate-axiom-over-2
 slice-aggregate-axiom-over-2 c = search needs
 
 axiom-over-requires : tie.Need-axiom-over-requires
-axiom-over-requires c κs = let z = c .before .before .before .before in (z .pre .0, (z .pre .1, blank 4093 (omega arith)))
+axiom-over-requires c κs = let z = c .before .before .before .before in (z .pre .0, (z .pre .1, blank 2039 (omega arith)))
 
 returns : tie.Need-returns
 returns c = c .before .before .axiom-over .ensures

@@ -14,7 +14,7 @@ slice-aggregate-concept-over-2 : tie.Need-slice-aggregate-concept-over-2
 slice-aggregate-concept-over-2 c = search needs
 
 concept-over-requires : tie.Need-concept-over-requires
-concept-over-requires c κs = let z = c .before .before .before .before in (z .pre .0, (z .pre .1 .0, (z .pre .1 .1, blank 4093 (omega arith))))
+concept-over-requires c κs = let z = c .before .before .before .before in (z .pre .0, (z .pre .1 .0, (z .pre .1 .1, blank 2039 (omega arith))))
 
 returns : tie.Need-returns
 returns c = c .before .before .concept-over .ensures

@@ -14,10 +14,10 @@ mul-result : tie.Need-mul-result
 mul-result c = let z = c .before .before .before in omega (arith, key-fits {n = z .args .concepts} {c = z .args .shape .elements} {e = 0} (omega arith) (omega arith) (omega arith))
 
 returns : tie.Need-returns
-returns c = let a = c .before .before .before .args in simp (lt-ltb (a .shape .edges) 2049 (c .before .if1 .taken))
+returns c = let a = c .before .before .before .args in simp (lt-ltb (a .shape .edges) 513 (c .before .if1 .taken))
 
 returns-2 : tie.Need-returns-2
-returns-2 c = let a = c .before .before .args in simp (le-ltb (a .shape .edges) 2049 (omega (arith, c .if1 .left)))
+returns-2 c = let a = c .before .before .args in simp (le-ltb (a .shape .edges) 513 (omega (arith, c .if1 .left)))
 
 pub is-small-spec : {M : Type 1} → statement M
 is-small-spec = tie.close (tie.spec cast-result mul-result returns returns-2)

@@ -14,7 +14,7 @@ slice-aggregate-judge-over-2 : tie.Need-slice-aggregate-judge-over-2
 slice-aggregate-judge-over-2 c = search needs
 
 judge-over-requires : tie.Need-judge-over-requires
-judge-over-requires c κs = let z = c .before .before .before .before .before .before in (z .pre .0, (z .pre .1, blank 4093 (omega arith)))
+judge-over-requires c κs = let z = c .before .before .before .before .before .before in (z .pre .0, (z .pre .1, blank 2039 (omega arith)))
 
 same-length : tie.Need-same-length
 same-length c = search needs
