@@ -218,6 +218,7 @@ def main():
     measure('60 Somes over seven shared Ands', somes_over_ands(60, 7, 254, 900), JUDGING)
     measure('8 Somes, 17 concepts apart, 241 elements', somes_apart(8, 17, 241, 950), JUDGING)
     measure('20 Somes, 17 concepts apart, 241 elements', somes_apart(20, 17, 241, 950), JUDGING)
+    measure('11 Somes, 257 concepts apart, 255 elements', somes_apart(11, 257, 255, 950), JUDGING)
     for seed in range(1, 13):
         measure('random Somes, seed %d' % seed, random_somes(seed), JUDGING)
     for members in (1280, 6400):
