@@ -186,6 +186,24 @@ fn judge_over(
     judge_each(deck, labels, edges, shape, index, memo, verdicts)
 }
 
+fn judge_tiny(
+    deck: &[u8],
+    labels: &[u64],
+    edges: &[[u32; 3]],
+    shape: Shape,
+    verdicts: &mut [u32],
+) -> Judged
+    requires { ⌜ Fits (now deck) (now labels) (now edges) shape ⌝ }
+    requires { ⌜ 4 * axiomCount (deckOf (now deck)) ≤ length (now verdicts) ⌝ }
+    ensures words { λ _. ⌜ now (verdicts .exit) ≡ put (now (verdicts .entry)) (wordsIn (verdictsIn (deckOf (now (deck .entry))) (structureOf (deckOf (now (deck .entry))) (now (labels .entry)) (now (edges .entry)) shape))) ⌝ }
+    ensures fails { λ r. ⌜ r .fails ≡ any (map isFails (verdictsIn (deckOf (now (deck .entry))) (structureOf (deckOf (now (deck .entry))) (now (labels .entry)) (now (edges .entry)) shape))) ⌝ }
+    ensures unresolved { λ r. ⌜ r .unresolved ≡ any (map isUnresolved (verdictsIn (deckOf (now (deck .entry))) (structureOf (deckOf (now (deck .entry))) (now (labels .entry)) (now (edges .entry)) shape))) ⌝ }
+{
+    let mut index: [u32; 256] = [0; 256];
+    let mut memo: [u16; 251] = [0; 251];
+    judge_over(deck, labels, edges, shape, &mut index, &mut memo, verdicts)
+}
+
 fn judge_small(
     deck: &[u8],
     labels: &[u64],
@@ -228,6 +246,16 @@ fn judge_large(
     judged
 }
 
+// Does the least room do? What is judged does not depend on it.
+fn is_tiny(shape: Shape, concepts: u32) -> bool {
+    if shape.edges < 33 {
+        if shape.elements < 16 {
+            return concepts < 16;
+        }
+    }
+    false
+}
+
 // The same, in the room that the structure needs.
 pub fn judge_axioms(
     deck: &[u8],
@@ -242,7 +270,11 @@ pub fn judge_axioms(
     ensures fails { λ r. ⌜ r .fails ≡ any (map isFails (verdictsIn (deckOf (now (deck .entry))) (structureOf (deckOf (now (deck .entry))) (now (labels .entry)) (now (edges .entry)) shape))) ⌝ }
     ensures unresolved { λ r. ⌜ r .unresolved ≡ any (map isUnresolved (verdictsIn (deckOf (now (deck .entry))) (structureOf (deckOf (now (deck .entry))) (now (labels .entry)) (now (edges .entry)) shape))) ⌝ }
 {
-    if is_small(shape, concept_count(deck)) {
+    let concepts = concept_count(deck);
+    if is_tiny(shape, concepts) {
+        return judge_tiny(deck, labels, edges, shape, verdicts);
+    }
+    if is_small(shape, concepts) {
         return judge_small(deck, labels, edges, shape, verdicts);
     }
     judge_large(deck, labels, edges, shape, verdicts)

@@ -1,4 +1,5 @@
-//! Decks at the limits of what a deck may hold: whole runs of the original and of the static library, in one run.
+//! Decks at the limits of what a deck may hold, and small ones: whole runs of the original and of the static library, in one
+//! run.
 use crate::answer::Bounds;
 use crate::oracle::Case;
 use crate::ours::{Lent, need};
@@ -108,7 +109,57 @@ fn time(extreme: &Extreme) {
     }
 }
 
+/// Document 01's deck W.
+fn deck_w() -> Parts {
+    let mut parts = plain(2, true, 1);
+    parts.concepts.push([8, 0, 0, 0]);
+    parts.facts.push([1, 0, 0]);
+    parts.axioms.extend([[0, 1, 0, 0], [0, 1, 2, 0]]);
+    parts
+}
+
+/// Classes under class 0, each with a fact and a rule to the next, a domain, a range and a transitive role.
+fn small(classes: u32) -> Parts {
+    let mut parts = plain(classes, true, 3);
+    for k in 1..classes {
+        parts.facts.push([k, 0, k / 2]);
+        parts.concepts.push([8, 2, k / 2, 0]);
+        parts.axioms.push([0, k, classes + k - 1, 0]);
+    }
+    parts.axioms.extend([[9, 0, 0, 0], [10, 2, 0, 0], [11, 4, 0, 0]]);
+    parts
+}
+
+/// A small deck: the mean of many runs in microseconds, the least of several turns.
+fn time_small(name: &str, parts: &Parts, bounds: Bounds) {
+    const TIMES: u32 = 1000;
+    let (bytes, case) = (parts.bytes(), Case::new(parts));
+    assert!(crate::reader::read(&bytes).is_ok());
+    let mut lent = Lent::marked(need(parts, bounds));
+    let here = least(|| (0..TIMES).for_each(|_| assert_eq!(lent.run(&bytes, bounds, 4), 0))) / f64::from(TIMES);
+    let answer = lent.taken(parts).unwrap();
+    let there = least(|| {
+        for _ in 0..TIMES {
+            assert_eq!(case.verdicts(&case.build(bounds, 4).model).len(), answer.verdicts.len());
+        }
+    }) / f64::from(TIMES);
+    let built = format!("{name} | {} | {}", answer.elements, answer.edges.len());
+    println!("| {built} | {there:.2} | {here:.2} | {:.3} |", here / there);
+}
+
+fn run_small() {
+    let bounds = Bounds { elements: 255, edges: 1000, rounds: 100 };
+    println!(
+        "\nSmall decks: whole runs\n\n| | elements | edges | original, µs | here, µs | ratio |\n|---|---|---|---|---|---|"
+    );
+    time_small("deck W", &deck_w(), bounds);
+    for (name, classes) in [("5 classes", 5), ("20 classes", 20), ("60 classes", 60)] {
+        time_small(name, &small(classes), bounds);
+    }
+}
+
 pub fn run() {
+    run_small();
     let most = Bounds { elements: 8000, edges: 300_000, rounds: 100 };
     let small = Bounds { elements: 8000, edges: 6000, rounds: 100 };
     println!(
