@@ -91,6 +91,14 @@ static void print_verdict(const uint32_t *v) {
     }
 }
 
+/* The number, and the word of 12, 13 or 14. */
+static void print_refusal(const job *j, uint32_t refused) {
+    uint32_t word = style_deck_fault_word(j->deck, j->deck_length);
+    printf("refused %" PRIu32, refused);
+    if (word != STYLE_DECK_NO_WORD) printf(" at word %" PRIu32, word);
+    printf("\n");
+}
+
 static void print_run(const job *j) {
     static const char *const outcomes[] = {"confirmed", "failed", "open"};
     uint32_t elements = j->answer[1], edges = j->answer[2], reasons = j->answer[3];
@@ -145,7 +153,7 @@ static void judge(job *j) {
         refused = ask(j);
     }
     if (refused != STYLE_DECK_ACCEPTED)
-        printf("refused %" PRIu32 "\n", refused);
+        print_refusal(j, refused);
     else if (j->answer[0] == STYLE_DECK_CONFIRMED)
         j->status = EXIT_SUCCESS;
 }

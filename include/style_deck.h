@@ -8,9 +8,10 @@
  * written, where it is not const); where the length is 0 nothing is read or written through it, and it may be NULL. A buffer
  * that is not const overlaps no other argument. These are the only things that a caller owes: any contents are allowed.
  *
- * Each function but style_deck_report returns 0, or the number of a refusal; then nothing was written anywhere. Else what it
- * answers stands in the first four words of `answer`, and words past the used part of any buffer are as they were. `answer`
- * needs at least STYLE_DECK_ANSWER_WORDS words: a shorter one is refused as 9, before anything else is looked at.
+ * Each function but style_deck_fault_word and style_deck_report returns 0, or the number of a refusal; then nothing was written
+ * anywhere. Else what it answers stands in the first four words of `answer`, and words past the used part of any buffer are as
+ * they were. `answer` needs at least STYLE_DECK_ANSWER_WORDS words: a shorter one is refused as 9, before anything else is
+ * looked at.
  *
  * Stack: a call goes as deep as the deck's concepts nest, at most 16,384 levels. The deepest deck takes less than 6,700 KB in
  * a run; STYLE_DECK_STACK_BYTES are enough for every deck. A program that is handed decks by others makes its calls on a thread
@@ -35,22 +36,28 @@ extern "C" {
 /* Stack that is enough for every call. */
 #define STYLE_DECK_STACK_BYTES (8u * 1024 * 1024)
 
-/* Why a deck, a run or a question is refused. Of several, the first found is given: 1 to 4; then record by record 5, 6, 7;
- * then 8, 9 for a run, or 10, 11 for a question about a lent structure. */
+/* Why a deck, a run or a question is refused. Of several, the first found is given: 1 to 4; then record by record 12, 13, 14,
+ * then 6, 7; then 8, 9 for a run, or 10, 11 for a question about a lent structure. 5 is retired: 12, 13 and 14 stand in its
+ * place, and style_deck_fault_word tells where in the deck they lie. */
 enum style_deck_refusal {
     STYLE_DECK_ACCEPTED = 0,
     STYLE_DECK_TOO_SHORT = 1,         /* bytes not a multiple of 4, or under 72 */
     STYLE_DECK_UNKNOWN_EDITION = 2,   /* edition is not 1 */
     STYLE_DECK_COUNT_OVER_LIMIT = 3,  /* a count above its limit */
     STYLE_DECK_BAD_LAYOUT = 4,        /* a start, the body count or M does not fit */
-    STYLE_DECK_BAD_FIELD = 5,         /* unknown tag or flag, number or list out of range, unused field filled */
     STYLE_DECK_BAD_ORDER = 6,         /* order broken, or own number absent from a row */
     STYLE_DECK_FORWARD_OPERAND = 7,   /* operand below the number of concepts but not below its concept */
     STYLE_DECK_BAD_BOUNDS = 8,        /* elements or rounds above 65,535, edges above 1,048,575, last phase not 1 to 4 */
     STYLE_DECK_SHORT_BUFFER = 9,      /* labels, edges, verdicts or answer shorter than needed */
     STYLE_DECK_FOREIGN_STRUCTURE = 10,/* a lent structure that does not fit its buffers or the deck (below) */
-    STYLE_DECK_ABSENT_INDEX = 11      /* axiom, concept or element number past its count */
+    STYLE_DECK_ABSENT_INDEX = 11,     /* axiom, concept or element number past its count */
+    STYLE_DECK_UNKNOWN_TAG = 12,      /* unknown tag or flag */
+    STYLE_DECK_OUT_OF_RANGE = 13,     /* number or list out of range */
+    STYLE_DECK_FILLED_FIELD = 14      /* unused field filled */
 };
+
+/* What style_deck_fault_word returns for a deck without such a fault. */
+#define STYLE_DECK_NO_WORD 4294967295u
 
 /* What a run comes to: word 0 of its answer. */
 enum style_deck_outcome {
@@ -85,9 +92,19 @@ typedef struct {
  *
  *   deck, deck_length   the deck's bytes: 32-bit words, low byte first; no alignment is needed
  *
- * Returns 0, or a refusal from 1 to 7.
+ * Returns 0, or a refusal: 1 to 4, 6, 7, or 12 to 14.
  */
 uint32_t style_deck_check(const uint8_t *deck, size_t deck_length);
+
+/* At which word does the deck's fault lie?
+ *
+ *   deck, deck_length   the deck's bytes, as for style_deck_check
+ *
+ * Returns, for a deck that is refused with 12, 13 or 14, the word at which the first fault lies, counted from word 0 of the deck:
+ * a field, or a word of a list; for a list that leaves the lists part, its start field. STYLE_DECK_NO_WORD for every other deck,
+ * accepted or refused. Whichever function refused the deck, the word is the same.
+ */
+uint32_t style_deck_fault_word(const uint8_t *deck, size_t deck_length);
 
 /* Is `element` in the concept, in a lent structure?
  *
@@ -100,9 +117,9 @@ uint32_t style_deck_check(const uint8_t *deck, size_t deck_length);
  *   element                 an element of the structure
  *   answer, answer_length   words for the answer
  *
- * Returns 0, and in `answer` a judgement, its tag or 0, 0, 0. Or a refusal: 9 for a short `answer`, 1 to 7 for the deck,
- * 10 where elements or edge_count is above what its buffer holds, elements is above 65,536, an edge has an end that is no
- * element or a role that is none of the deck's, or a label has a bit at or past N; 11.
+ * Returns 0, and in `answer` a judgement, its tag or 0, 0, 0. Or a refusal: 9 for a short `answer`, 1 to 4, 6, 7 or 12 to 14
+ * for the deck, 10 where elements or edge_count is above what its buffer holds, elements is above 65,536, an edge has an end
+ * that is no element or a role that is none of the deck's, or a label has a bit at or past N; 11.
  */
 uint32_t style_deck_eval_concept(const uint8_t *deck, size_t deck_length,
                                  const uint64_t *labels, size_t labels_length, uint32_t elements,
@@ -143,7 +160,7 @@ uint32_t style_deck_check_axiom(const uint8_t *deck, size_t deck_length,
  *     3 b limit        a bound was tripped: b is 0 for elements, 1 for edges, 2 for rounds
  *     4 dropped 0      axioms were dropped before the deck was made; given last
  *
- * Or a refusal: 9 for a short `answer`, 1 to 7 for the deck, 8, 9. Nothing was then written to any buffer.
+ * Or a refusal: 9 for a short `answer`, 1 to 4, 6, 7 or 12 to 14 for the deck, 8, 9. Nothing was then written to any buffer.
  */
 uint32_t style_deck_run(const uint8_t *deck, size_t deck_length,
                         uint32_t max_elements, uint32_t max_edges, uint32_t max_rounds, uint32_t last_phase,

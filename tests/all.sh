@@ -40,6 +40,7 @@ LINES
 }
 
 wrapper() { (cd bindings/rust && cargo test --offline); }
+readings() { (cd tests/differential && cargo test --offline --release); }
 compared() { (cd tests/differential && cargo run --offline --release -- 1 20000); }
 
 mkdir -p "$made" || exit 1
@@ -60,6 +61,7 @@ try "the Rust wrapper's tests" wrapper
 try "the program" rt check verify
 try "its input and output, whole and in pieces" python3 tests/streams.py
 if [ -n "$STYLE_DECK_RUST" ]; then
+    try "the comparison's reader of decks" readings
     try "20,000 decks compared with the original" compared
 else
     echo "skipped: 20,000 decks compared with the original; set STYLE_DECK_RUST to the folder of its files"

@@ -1,5 +1,5 @@
-/* Empty buffers lent as NULL with length 0: each function answers as for any other empty buffer. Prints what differs, and
- * exits 1 if anything does. Run it under valgrind to see that nothing is read or written there. */
+/* Empty buffers lent as NULL with length 0: each function answers as for any other empty buffer. And the words of faults, from
+ * C. Prints what differs, and exits 1 if anything does. Run it under valgrind to see that nothing is read or written there. */
 #include <stdio.h>
 #include <string.h>
 #include "../include/style_deck.h"
@@ -30,12 +30,30 @@ static void make_declared(void) {
 static void decks(void) {
     uint32_t answer[4] = {7, 7, 7, 7};
     expect("check of no bytes", STYLE_DECK_TOO_SHORT, style_deck_check(NULL, 0));
+    expect("word of no bytes", STYLE_DECK_NO_WORD, style_deck_fault_word(NULL, 0));
     expect("concept, no bytes", STYLE_DECK_TOO_SHORT,
            style_deck_eval_concept(NULL, 0, NULL, 0, 0, NULL, 0, 0, 0, 0, answer, 4));
     expect("axiom, no bytes", STYLE_DECK_TOO_SHORT, style_deck_check_axiom(NULL, 0, NULL, 0, 0, NULL, 0, 0, 0, answer, 4));
     expect("run of no bytes", STYLE_DECK_TOO_SHORT,
            style_deck_run(NULL, 0, 0, 0, 0, 4, NULL, 0, NULL, 0, NULL, 0, NULL, 0, answer, 4));
     expect("answer as it was", 7, answer[0]);
+}
+
+/* The declaration with other tags and fields: what it is refused with, and at which word. */
+static void words(void) {
+    uint8_t deck[88];
+    memcpy(deck, declared, sizeof deck);
+    expect("word of no fault", STYLE_DECK_NO_WORD, style_deck_fault_word(deck, 88));
+    deck[12] = 1;
+    expect("a filled field", STYLE_DECK_FILLED_FIELD, style_deck_check(deck, 88));
+    expect("its word", 3, style_deck_fault_word(deck, 88));
+    deck[0] = 24;
+    expect("a role that is not there", STYLE_DECK_OUT_OF_RANGE, style_deck_check(deck, 88));
+    expect("its word", 1, style_deck_fault_word(deck, 88));
+    deck[0] = 26;
+    expect("an unknown tag", STYLE_DECK_UNKNOWN_TAG, style_deck_check(deck, 88));
+    expect("its word", 0, style_deck_fault_word(deck, 88));
+    expect("word of a fault, a byte short", STYLE_DECK_NO_WORD, style_deck_fault_word(deck, 87));
 }
 
 static void answers(void) {
@@ -86,6 +104,7 @@ static void reports(void) {
 int main(void) {
     make_declared();
     decks();
+    words();
     answers();
     structures();
     runs();

@@ -4,8 +4,8 @@
     python3 tests/make_decks.py            writes crates/test_deck/stdin and stdout
     python3 tests/make_decks.py --check    compares them with what it would write; exit 1 if they differ
 
-The expected numbers come from `number`, a reader of decks written from document 01 alone. A hand-made case also
-states its number, and the two must agree.
+What is expected comes from `answer`, a reader of decks written from document 01 and document 02, a): a number, and for
+12 to 14 the word at which the first fault lies. A hand-made case also states both, and the two must agree.
 
 The data, in words of four bytes, low byte first, deck after deck to the end:
 
@@ -15,36 +15,59 @@ A run is a count, a width, and
     width 0       count words of the deck as they stand
     width 1 to 4  width steps; it makes count words of the deck, word i of them being the deck's word `width` words
                   earlier plus step number i mod width, modulo 2^32
+    width 5       nothing; count words stay as the decks before left them
 The deck is what the runs made, cut to its length.
 """
+import collections
 import copy
 import random
 import struct
+import sys
 
+from heaps import HAND_MADE
 from shared import check_name, finish, padded
 
 BIG = 4294967295
 LIMITS = (4096, 1024, 4096, 16384, 16384, 16384, 262144)
 WIDTHS = (3, 4, 3, 4, 4, 3, 1)
 PARTS = ('classes', 'roles', 'injected', 'concepts', 'axioms', 'facts', 'lists')
+KEPT = 5            # the width of a run that keeps what stands
+ROOM = 600000       # bytes that the program reads
 
 
 # --- The reader -----------------------------------------------------------------------------------------------------
 
-# Fields by tag: c concept, k class, r role number, w role word, n any value, - unused; C, W, N a list (two fields) of
-# concepts, role words, values.
+# What a record holds, a letter for each field: c concept, k class, q real class, r role number, w role word, f flag,
+# n any value, - unused; C, K, R, W, N a list (two fields) of concepts, classes, role numbers, role words, values. The
+# forms of concepts and axioms are those of their fields after the tag.
 CONCEPT_FORMS = ('---', '---', 'k--', 'n--', 'w--', 'c--', 'C-', 'C-', 'wc-', 'wc-', 'nwc', 'nwc')
 AXIOM_FORMS = ('cc-', 'C-', 'C-', 'kC', 'ww-', 'Ww', 'W-', 'W-', 'ww-', 'wc-', 'wc-', 'w--', 'w--', 'w--', 'w--',
                'w--', 'w--', 'w--', 'cn-', 'wnn', 'wnn', 'N-', 'N-', 'k--', 'r--', 'n--')
+CLASS_FORM, ROLE_FORM, INJECTED_FORM, FACT_FORM = 'fK', 'RK', 'krq', 'krk'
+
+# Document 02, a): "12 tag or flag, 13 range, 14 filled field".
+TAG, RANGE, FILLED = 12, 13, 14
+HEAPS = {'f': TAG, '-': FILLED}         # by letter; of all others, range
+LEAVES = 'x'                            # the letter of a list that leaves the lists part
 
 
 class Refused(Exception):
-    pass
+    """The number of a refusal, and its word if it is 12 to 14."""
 
 
 def refuse(number_, when):
     if when:
         raise Refused(number_)
+
+
+def first_fault(faults):
+    """Refuses a record that has faults, which stand in the order of its fields."""
+    if faults:
+        # "tested in that order": all fields for 12, then for 13, then for 14.
+        found = min(faults, key=lambda fault: fault[0])
+        # "the word at which the first fault lies … Fields are gone through in order"
+        assert found == faults[0], faults
+        raise Refused(*found)
 
 
 class Reader:
@@ -64,77 +87,102 @@ class Reader:
             at += count * width
         refuse(4, at != len(body) or trailer[17] != len(body) or self.real > counts[0])
         self.count = dict(zip(PARTS, counts))
+        self.start = dict(zip(PARTS, starts))
         self.parts = dict(zip(PARTS, parts))
         self.words = body[len(body) - counts[6]:]
-        self.below = {'c': counts[3], 'k': counts[0], 'r': counts[1], 'w': 2 * counts[1], 'n': BIG + 1, '-': 1}
+        self.below = {'c': counts[3], 'k': counts[0], 'q': self.real, 'r': counts[1], 'w': 2 * counts[1], 'f': 2,
+                      'n': BIG + 1, '-': 1, LEAVES: 0}
 
-    def listed(self, start, count, kind):
-        refuse(5, start + count > len(self.words))
-        members = self.words[start:start + count]
-        refuse(5, count > 0 and max(members) >= self.below[kind])
-        return members
+    def records(self, part):
+        """The number of each record, the word at which it begins, and its words."""
+        for k, record in enumerate(self.parts[part]):
+            yield k, self.start[part] + k * len(record), record
+
+    def listed(self, start, count):
+        return self.words[start:start + count]
+
+    def held(self, form, at, fields):
+        """What fields from word `at` on hold: letter, value and word of each, in order, "a list's words with its
+        start". A list that leaves the lists part is one thing, at its start field."""
+        place = 0
+        for letter in form:
+            value, word = fields[place], at + place
+            if letter.isupper():
+                count = fields[place + 1]
+                if value + count > len(self.words):
+                    yield LEAVES, value, word
+                else:
+                    for k in range(value, value + count):
+                        yield letter.lower(), self.words[k], self.start['lists'] + k
+                place += 2
+            else:
+                yield letter, value, word
+                place += 1
+
+    def fit(self, form, at, fields):
+        """Are all fields as they should be? Answers the concepts that they name."""
+        held = list(self.held(form, at, fields))
+        first_fault([(HEAPS.get(letter, RANGE), word) for letter, value, word in held if value >= self.below[letter]])
+        return [value for letter, value, _ in held if letter == 'c']
+
+    def tagged(self, forms, at, record):
+        """The same for a record with a tag. If that is unknown, nothing can be said of the fields after it."""
+        if record[0] >= len(forms):
+            first_fault([(TAG, at)])
+        return self.fit(forms[record[0]], at + 1, record[1:])
 
     def rising(self, row):
         refuse(6, any(a >= b for a, b in zip(row, row[1:])))
 
-    def fields(self, forms, record):
-        """The concepts that a record of concepts or axioms names."""
-        refuse(5, record[0] >= len(forms))
-        at, found = 1, []
-        for kind in forms[record[0]]:
-            if kind.isupper():
-                members, at = self.listed(record[at], record[at + 1], kind.lower()), at + 2
-            else:
-                refuse(5, record[at] >= self.below[kind])
-                members, at = record[at:at + 1], at + 1
-            if kind in 'cC':
-                found.extend(members)
-        return found
-
     def classes(self):
-        for k, (flag, start, count) in enumerate(self.parts['classes']):
-            refuse(5, flag > 1)
-            row = self.listed(start, count, 'k')
+        for k, at, record in self.records('classes'):
+            self.fit(CLASS_FORM, at, record)
+            row = self.listed(*record[1:])
             self.rising(row)
-            refuse(6, flag == 0 and k not in row)
+            refuse(6, record[0] == 0 and k not in row)
 
     def roles(self):
-        for r, (start, count, range_start, range_count) in enumerate(self.parts['roles']):
-            subs = self.listed(start, count, 'r')
-            ranges = self.listed(range_start, range_count, 'k')
+        for r, at, record in self.records('roles'):
+            self.fit(ROLE_FORM, at, record)
+            subs, ranges = self.listed(*record[:2]), self.listed(*record[2:])
             self.rising(subs)
             self.rising(ranges)
             refuse(6, r not in subs)
 
     def injected(self):
         last = (-1, -1)
-        for y, r, q in self.parts['injected']:
-            refuse(5, y >= self.below['k'] or r >= self.below['r'] or q >= self.real)
-            refuse(6, (y, r) <= last)
-            last = (y, r)
+        for _, at, record in self.records('injected'):
+            self.fit(INJECTED_FORM, at, record)
+            refuse(6, record[:2] <= last)
+            last = record[:2]
 
     def concepts(self):
-        for k, record in enumerate(self.parts['concepts']):
-            refuse(7, any(operand >= k for operand in self.fields(CONCEPT_FORMS, record)))
+        for k, at, record in self.records('concepts'):
+            refuse(7, any(operand >= k for operand in self.tagged(CONCEPT_FORMS, at, record)))
 
     def axioms(self):
-        for record in self.parts['axioms']:
-            self.fields(AXIOM_FORMS, record)
+        for _, at, record in self.records('axioms'):
+            self.tagged(AXIOM_FORMS, at, record)
 
     def facts(self):
-        for one, role, other in self.parts['facts']:
-            refuse(5, max(one, other) >= self.below['k'] or role >= self.below['r'])
+        for _, at, record in self.records('facts'):
+            self.fit(FACT_FORM, at, record)
 
 
-def number(deck):
-    """0 for an accepted deck, else the number of its refusal."""
+def answer(deck):
+    """(0,) for an accepted deck, else the number of its refusal, with the word if it is 12 to 14."""
     try:
         reader = Reader(deck)
         for part in PARTS[:6]:
             getattr(reader, part)()
     except Refused as refusal:
-        return refusal.args[0]
-    return 0
+        return refusal.args
+    return (0,)
+
+
+def number(deck):
+    """0 for an accepted deck, else the number of its refusal."""
+    return answer(deck)[0]
 
 
 # --- Building decks -------------------------------------------------------------------------------------------------
@@ -236,10 +284,10 @@ CASES = []
 
 
 def case(name, expected, deck, *edits):
-    """A hand-made case, with the number that its author expects."""
+    """A hand-made case, with what its author expects: a number, or one of 12 to 14 and a word."""
     data = deck if isinstance(deck, bytes) else deck.edited(*edits).bytes()
-    found = number(data)
-    assert found == expected, (name, expected, found)
+    found = answer(data)
+    assert found == (expected if isinstance(expected, tuple) else (expected,)), (name, expected, found)
     add(name, data, found)
 
 
@@ -252,6 +300,25 @@ B = base()
 N, R, C, L = 3, 2, 12, len(B.lists)
 EMPTY = Deck()
 REST = struct.pack('<18I', 1, *[0] * 17)
+# Where the parts of the base deck start.
+STARTS = {'classes': 0, 'roles': 9, 'injected': 17, 'concepts': 26, 'axioms': 74, 'facts': 178, 'lists': 184}
+
+
+def word(part, record, field=0):
+    """The word of the base deck in which this field stands, or this list word."""
+    return STARTS[part] + record * WIDTHS[PARTS.index(part)] + field
+
+
+def tag(*place):
+    return TAG, word(*place)
+
+
+def out(*place):
+    return RANGE, word(*place)
+
+
+def filled(*place):
+    return FILLED, word(*place)
 
 
 def lengths():
@@ -335,15 +402,15 @@ def starts():
 
 
 def class_rows():
-    case('flag-2', 5, B, ('classes', 1, 0, 2))
-    case('flag-2-last-class', 5, B, ('classes', 2, 0, 2))
-    case('flag-256', 5, B, ('classes', 0, 0, 256))
-    case('flag-largest', 5, B, ('classes', 0, 0, BIG))
+    case('flag-2', tag('classes', 1), B, ('classes', 1, 0, 2))
+    case('flag-2-last-class', tag('classes', 2), B, ('classes', 2, 0, 2))
+    case('flag-256', tag('classes', 0), B, ('classes', 0, 0, 256))
+    case('flag-largest', tag('classes', 0), B, ('classes', 0, 0, BIG))
     case('flag-1-for-all', 0, B, *[('classes', k, 0, 1) for k in range(N)])
     list_ends('class-row', 'classes', 0, 1, True, [('classes', 0, 0, 1)])
-    case('class-row-member-at-n', 5, B, ('lists', 2, N))
-    case('class-row-member-largest', 5, B, ('lists', 0, BIG))
-    case('class-row-member-largest-last', 5, B, ('lists', 2, BIG))
+    case('class-row-member-at-n', out('lists', 2), B, ('lists', 2, N))
+    case('class-row-member-largest', out('lists', 0), B, ('lists', 0, BIG))
+    case('class-row-member-largest-last', out('lists', 2), B, ('lists', 2, BIG))
     case('class-row-member-above-m', 0, B, ('lists', 2, 2), ('classes', 1, 0, 1))
     case('class-row-equal-neighbours', 6, B, ('lists', 1, 1))
     case('class-row-falls', 6, B, ('lists', 1, 1), ('lists', 2, 0))
@@ -369,16 +436,17 @@ def list_ends(name, part, record, field, all_of_them, flag=()):
     """A list's range: start and count are the fields `field` and `field + 1`."""
     start, count = getattr(B, part)[record][field:field + 2]
     at, many = (part, record, field), (part, record, field + 1)
-    case(name + '-ends-past-l', 5, B, at + (L - count + 1,))
-    case(name + '-sum-wraps-to-0', 5, B, at + (BIG,), many + (1,))
-    case(name + '-empty-past-l', 5, B, *flag, at + (L + 1,), many + (0,))
+    fault = out(part, record, field)
+    case(name + '-ends-past-l', fault, B, at + (L - count + 1,))
+    case(name + '-sum-wraps-to-0', fault, B, at + (BIG,), many + (1,))
+    case(name + '-empty-past-l', fault, B, *flag, at + (L + 1,), many + (0,))
     if all_of_them:
-        case(name + '-start-past-l', 5, B, at + (L + 1,))
-        case(name + '-count-past-l', 5, B, many + (L - start + 1,))
-        case(name + '-count-largest', 5, B, many + (BIG,))
-        case(name + '-sum-wraps-to-1', 5, B, at + (2,), many + (BIG,))
-        case(name + '-sum-2p31-twice', 5, B, at + (1 << 31,), many + (1 << 31,))
-        case(name + '-empty-largest', 5, B, *flag, at + (BIG,), many + (0,))
+        case(name + '-start-past-l', fault, B, at + (L + 1,))
+        case(name + '-count-past-l', fault, B, many + (L - start + 1,))
+        case(name + '-count-largest', fault, B, many + (BIG,))
+        case(name + '-sum-wraps-to-1', fault, B, at + (2,), many + (BIG,))
+        case(name + '-sum-2p31-twice', fault, B, at + (1 << 31,), many + (1 << 31,))
+        case(name + '-empty-largest', fault, B, *flag, at + (BIG,), many + (0,))
 
 
 def role_rows():
@@ -387,16 +455,16 @@ def role_rows():
     case('sub-row-empty', 6, B, ('roles', 0, 0, L), ('roles', 0, 1, 0))
     case('range-row-empty-at-l', 0, B, ('roles', 1, 2, L), ('roles', 1, 3, 0))
     case('class-row-empty-at-l', 0, B, ('classes', 2, 1, L), ('classes', 2, 2, 0))
-    case('sub-row-member-at-r', 5, B, ('lists', 8, R))
-    case('sub-row-member-below-n-at-r', 5, B, ('lists', 5, R))
-    case('sub-row-member-largest', 5, B, ('lists', 8, BIG))
+    case('sub-row-member-at-r', out('lists', 8), B, ('lists', 8, R))
+    case('sub-row-member-below-n-at-r', out('lists', 5), B, ('lists', 5, R))
+    case('sub-row-member-largest', out('lists', 8), B, ('lists', 8, BIG))
     case('sub-row-equal-neighbours', 6, B, ('lists', 7, 1))
     case('sub-row-falls', 6, B, ('lists', 7, 1), ('lists', 8, 0))
     case('own-role-absent', 6, B, ('lists', 5, 1))
     case('own-role-absent-from-second', 6, B, ('roles', 1, 1, 1))
-    case('range-row-member-at-n', 5, B, ('lists', 10, N))
+    case('range-row-member-at-n', out('lists', 10), B, ('lists', 10, N))
     case('range-row-member-at-r-below-n', 0, B, ('lists', 6, 2))
-    case('range-row-member-largest', 5, B, ('lists', 6, BIG))
+    case('range-row-member-largest', out('lists', 6), B, ('lists', 6, BIG))
     case('range-row-equal-neighbours', 6, B, ('lists', 9, 2))
     case('range-row-falls', 6, B, ('lists', 9, 2), ('lists', 10, 0))
     case('range-row-without-own-number', 0, B, ('lists', 6, 1))
@@ -405,9 +473,9 @@ def role_rows():
 def injected():
     for field, name, bad in ((0, 'y', N), (1, 'r', R), (2, 'q', N)):
         for k in (0, 2):
-            case('injected-%d-%s-out' % (k, name), 5, B, ('injected', k, field, bad))
-    case('injected-q-at-m-below-n', 5, B, ('injected', 1, 2, 2))
-    case('injected-q-at-m-when-m-is-0', 5, B, ('real', 0))
+            case('injected-%d-%s-out' % (k, name), out('injected', k, field), B, ('injected', k, field, bad))
+    case('injected-q-at-m-below-n', out('injected', 1, 2), B, ('injected', 1, 2, 2))
+    case('injected-q-at-m-when-m-is-0', out('injected', 0, 2), B, ('real', 0))
     case('injected-q-below-larger-m', 0, B, ('injected', 1, 2, 2), ('real', 3))
     case('injected-y-above-m', 0, B, ('injected', 2, 0, 2))
     case('injected-y-falls', 6, B, ('injected', 0, 0, 1), ('injected', 1, 0, 0))
@@ -439,48 +507,49 @@ AXIOM_LISTS = {1: 1, 2: 1, 3: 2, 5: 1, 6: 1, 7: 1, 21: 1, 22: 1}
 AXIOM_FREE = {18: (2,), 19: (2, 3), 20: (2, 3), 25: (1,)}
 
 
-def fields(part, one, unused, out, lists, free):
-    for tag, places in unused.items():
+def fields(part, one, unused, past, lists, free):
+    """In the base deck a record's number is its tag."""
+    for k, places in unused.items():
         for field in places:
-            case('%s-%d-unused-field-%d' % (one, tag, field), 5, B, (part, tag, field, 1))
-    case('%s-0-unused-field-3-largest' % one, 5, B, (part, 0, 3, BIG))
-    for tag, places in out.items():
+            case('%s-%d-unused-field-%d' % (one, k, field), filled(part, k, field), B, (part, k, field, 1))
+    case('%s-0-unused-field-3-largest' % one, filled(part, 0, 3), B, (part, 0, 3, BIG))
+    for k, places in past.items():
         for field, bad in places.items():
-            case('%s-%d-field-%d-just-out' % (one, tag, field), 5, B, (part, tag, field, bad))
-            if tag == 8:
-                case('%s-%d-field-%d-largest' % (one, tag, field), 5, B, (part, tag, field, BIG))
-    for tag, field in lists.items():
-        list_ends('%s-%d-list' % (one, tag), part, tag, field, one == 'axiom' and tag == 3)
-        case('%s-%d-list-empty-at-l' % (one, tag), 0, B, (part, tag, field, L), (part, tag, field + 1, 0))
-    for tag, places in free.items():
+            case('%s-%d-field-%d-just-out' % (one, k, field), out(part, k, field), B, (part, k, field, bad))
+            if k == 8:
+                case('%s-%d-field-%d-largest' % (one, k, field), out(part, k, field), B, (part, k, field, BIG))
+    for k, field in lists.items():
+        list_ends('%s-%d-list' % (one, k), part, k, field, one == 'axiom' and k == 3)
+        case('%s-%d-list-empty-at-l' % (one, k), 0, B, (part, k, field, L), (part, k, field + 1, 0))
+    for k, places in free.items():
         for field in places:
-            case('%s-%d-field-%d-any-value' % (one, tag, field), 0, B, (part, tag, field, BIG))
+            case('%s-%d-field-%d-any-value' % (one, k, field), 0, B, (part, k, field, BIG))
     tags = len(getattr(B, part))
-    for tag in (tags, 100, 256 + tags - 1, BIG):
-        case('%s-tag-%d' % (one, tag), 5, B, (part, 0, slice(0, 4), [tag, 0, 0, 0]))
-    case('%s-last-with-unknown-tag' % one, 5, B, (part, tags - 1, 0, tags))
+    for k in (tags, 100, 256 + tags - 1, BIG):
+        case('%s-tag-%d' % (one, k), tag(part, 0), B, (part, 0, slice(0, 4), [k, 0, 0, 0]))
+    case('%s-last-with-unknown-tag' % one, tag(part, tags - 1), B, (part, tags - 1, 0, tags))
 
 
 def concepts():
     fields('concepts', 'concept', CONCEPT_UNUSED, CONCEPT_OUT, CONCEPT_LISTS, CONCEPT_FREE)
-    for tag in (6, 7):
-        start, count = B.concepts[tag][1:3]
+    for k in (6, 7):
+        start, count = B.concepts[k][1:3]
         last = start + count - 1
-        case('concept-%d-first-member-out' % tag, 5, B, ('lists', start, C))
-        case('concept-%d-last-member-out' % tag, 5, B, ('lists', last, C))
-        case('concept-%d-last-member-largest' % tag, 5, B, ('lists', last, BIG))
-        case('concept-%d-first-member-itself' % tag, 7, B, ('lists', start, tag))
-        case('concept-%d-last-member-itself' % tag, 7, B, ('lists', last, tag))
-        case('concept-%d-last-member-above' % tag, 7, B, ('lists', last, tag + 1))
-        case('concept-%d-last-member-highest' % tag, 7, B, ('lists', last, C - 1))
-        case('concept-%d-last-member-just-below' % tag, 0, B, ('lists', last, tag - 1))
-        case('concept-%d-members-repeat' % tag, 0, B, *[('lists', start + k, 3) for k in range(count)])
-    for tag, field in ((5, 1), (8, 2), (9, 2), (10, 3), (11, 3)):
-        case('concept-%d-operand-itself' % tag, 7, B, ('concepts', tag, field, tag))
-        if tag < C - 1:
-            case('concept-%d-operand-above' % tag, 7, B, ('concepts', tag, field, tag + 1))
-            case('concept-%d-operand-highest' % tag, 7, B, ('concepts', tag, field, C - 1))
-        case('concept-%d-operand-just-below' % tag, 0, B, ('concepts', tag, field, tag - 1))
+        case('concept-%d-first-member-out' % k, out('lists', start), B, ('lists', start, C))
+        case('concept-%d-last-member-out' % k, out('lists', last), B, ('lists', last, C))
+        case('concept-%d-last-member-largest' % k, out('lists', last), B, ('lists', last, BIG))
+        case('concept-%d-first-member-itself' % k, 7, B, ('lists', start, k))
+        case('concept-%d-last-member-itself' % k, 7, B, ('lists', last, k))
+        case('concept-%d-last-member-above' % k, 7, B, ('lists', last, k + 1))
+        case('concept-%d-last-member-highest' % k, 7, B, ('lists', last, C - 1))
+        case('concept-%d-last-member-just-below' % k, 0, B, ('lists', last, k - 1))
+        case('concept-%d-members-repeat' % k, 0, B, *[('lists', start + k, 3) for k in range(count)])
+    for k, field in ((5, 1), (8, 2), (9, 2), (10, 3), (11, 3)):
+        case('concept-%d-operand-itself' % k, 7, B, ('concepts', k, field, k))
+        if k < C - 1:
+            case('concept-%d-operand-above' % k, 7, B, ('concepts', k, field, k + 1))
+            case('concept-%d-operand-highest' % k, 7, B, ('concepts', k, field, C - 1))
+        case('concept-%d-operand-just-below' % k, 0, B, ('concepts', k, field, k - 1))
     case('concept-0-not-of-itself', 7, B, ('concepts', 0, 0, 5))
     case('concept-0-empty-and', 0, B, ('concepts', 0, 0, 6))
     case('concept-0-empty-or', 0, B, ('concepts', 0, 0, 7))
@@ -491,26 +560,26 @@ def concepts():
          ('axioms', 4, 1, 3), ('axioms', 8, 1, 3), ('axioms', 8, 2, 3), ('axioms', 19, 1, 3))
     case('role-words-inverse-of-0', 0, B, ('concepts', 4, 1, 1), ('concepts', 9, 1, 1), ('axioms', 20, 1, 1))
     case('role-words-0', 0, B, ('concepts', 4, 1, 0), ('concepts', 9, 1, 0),
-         *[('axioms', tag, 1, 0) for tag in range(8, 18)])
-    case('role-word-without-roles', 5, full(roles=0, concepts=2), ('concepts', 1, 0, 4))
+         *[('axioms', k, 1, 0) for k in range(8, 18)])
+    case('role-word-without-roles', (RANGE, 8), full(roles=0, concepts=2), ('concepts', 1, 0, 4))
     case('min-operand-in-the-number-field', 0, B, ('concepts', 10, 1, 11))
-    case('atomic-0-without-classes', 5, full(classes=0, roles=0, concepts=1), ('concepts', 0, 0, 2))
+    case('atomic-0-without-classes', (RANGE, 1), full(classes=0, roles=0, concepts=1), ('concepts', 0, 0, 2))
 
 
 def axioms():
     fields('axioms', 'axiom', AXIOM_UNUSED, AXIOM_OUT, AXIOM_LISTS, AXIOM_FREE)
-    for tag, field, bad in ((1, 1, C), (2, 1, C), (3, 2, C), (5, 1, 2 * R), (6, 1, 2 * R), (7, 1, 2 * R)):
-        start, count = B.axioms[tag][field:field + 2]
+    for k, field, bad in ((1, 1, C), (2, 1, C), (3, 2, C), (5, 1, 2 * R), (6, 1, 2 * R), (7, 1, 2 * R)):
+        start, count = B.axioms[k][field:field + 2]
         if count > 1:
-            case('axiom-%d-first-member-out' % tag, 5, B, ('lists', start, bad))
-        case('axiom-%d-last-member-out' % tag, 5, B, ('lists', start + count - 1, bad))
-        case('axiom-%d-last-member-highest' % tag, 0, B, ('lists', start + count - 1, bad - 1))
-    for tag in (21, 22):
-        start, count = B.axioms[tag][1:3]
-        case('axiom-%d-members-any-value' % tag, 0, B, ('lists', start, BIG), ('lists', start + count - 1, BIG))
+            case('axiom-%d-first-member-out' % k, out('lists', start), B, ('lists', start, bad))
+        case('axiom-%d-last-member-out' % k, out('lists', start + count - 1), B, ('lists', start + count - 1, bad))
+        case('axiom-%d-last-member-highest' % k, 0, B, ('lists', start + count - 1, bad - 1))
+    for k in (21, 22):
+        start, count = B.axioms[k][1:3]
+        case('axiom-%d-members-any-value' % k, 0, B, ('lists', start, BIG), ('lists', start + count - 1, BIG))
     case('axioms-name-later-concepts', 0, B, ('axioms', 0, 1, C - 1), ('axioms', 0, 2, C - 1), ('axioms', 9, 2, C - 1),
          ('axioms', 18, 1, C - 1))
-    case('axiom-24-role-number-not-word', 5, B, ('axioms', 24, 1, 3))
+    case('axiom-24-role-number-not-word', out('axioms', 24, 1), B, ('axioms', 24, 1, 3))
     case('axiom-24-highest-role', 0, B, ('axioms', 24, 1, R - 1))
     case('axiom-3-class-above-m', 0, B, ('axioms', 3, 1, 2))
     case('axiom-3-class-at-m-when-m-is-0', 0, full(concepts=1, axioms=1), ('real', 0), ('axioms', 0, 0, 3),
@@ -522,12 +591,12 @@ def axioms():
 def facts():
     for k in range(2):
         for field, bad in ((0, N), (1, R), (2, N)):
-            case('fact-%d-field-%d-out' % (k, field), 5, B, ('facts', k, field, bad))
-        case('fact-%d-largest' % k, 5, B, ('facts', k, 2 * k, BIG))
-    case('fact-role-number-not-word', 5, B, ('facts', 0, 1, 3))
+            case('fact-%d-field-%d-out' % (k, field), out('facts', k, field), B, ('facts', k, field, bad))
+        case('fact-%d-largest' % k, out('facts', k, 2 * k), B, ('facts', k, 2 * k, BIG))
+    case('fact-role-number-not-word', out('facts', 0, 1), B, ('facts', 0, 1, 3))
     case('facts-fall-and-repeat', 0, B, ('facts', 0, 0, 2), ('facts', 1, 0, 2), ('facts', 0, 1, 1), ('facts', 0, 2, 0))
     case('fact-of-classes-above-m', 0, B, ('facts', 0, 0, 2), ('facts', 0, 2, 2))
-    case('fact-without-classes', 5, full(classes=0, roles=1), ('facts', slice(0, 0), [[0, 0, 0]]))
+    case('fact-without-classes', (RANGE, 4), full(classes=0, roles=1), ('facts', slice(0, 0), [[0, 0, 0]]))
 
 
 def lists():
@@ -536,30 +605,38 @@ def lists():
     case('lists-overlap', 0, B, ('concepts', 6, 1, 0), ('concepts', 7, 1, 1), ('axioms', 1, 1, 0), ('axioms', 6, 1, 1))
     case('list-over-a-class-row', 0, B, ('axioms', 1, 1, 0), ('axioms', 1, 2, 5))
     case('list-over-everything-of-individuals', 0, B, ('axioms', 21, 1, 0), ('axioms', 21, 2, L))
-    case('list-over-everything-of-concepts', 5, B, ('axioms', 1, 1, 0), ('axioms', 1, 2, L))
+    case('list-over-everything-of-concepts', out('lists', 31), B, ('axioms', 1, 1, 0), ('axioms', 1, 2, L))
     case('list-ends-at-l', 0, B, ('axioms', 22, 1, L - 2))
-    case('list-of-a-free-word', 5, B, ('axioms', 7, 1, L - 2))
+    case('list-of-a-free-word', out('lists', 31), B, ('axioms', 7, 1, L - 2))
 
 
-# One fault of each kind in the base deck: (name, number, edits).
+# One fault of each kind in the base deck: (name, part, answer, edits). Those of the trailer are parts by themselves.
 FAULTS = (
-    ('edition', 2, [('trailer', 0, 2)]), ('count', 3, [('trailer', 15, 262145)]), ('start', 4, [('trailer', 4, 1)]),
-    ('body', 4, [('trailer', 17, 0)]), ('real', 4, [('trailer', 1, N + 1)]), ('class5', 5, [('classes', 0, 0, 2)]),
-    ('class6', 6, [('lists', 1, 1)]), ('role5', 5, [('lists', 8, R)]), ('role6', 6, [('lists', 7, 1)]),
-    ('inject5', 5, [('injected', 0, 2, 2)]), ('inject6', 6, [('injected', 2, 0, 0)]),
-    ('concept5', 5, [('concepts', 4, 1, 4)]), ('concept7', 7, [('concepts', 8, 2, 8)]),
-    ('axiom5', 5, [('axioms', 3, 1, N)]), ('fact5', 5, [('facts', 0, 0, N)]))
+    ('edition', 'edition', 2, [('trailer', 0, 2)]), ('count', 'count', 3, [('trailer', 15, 262145)]),
+    ('start', 'layout', 4, [('trailer', 4, 1)]), ('body', 'layout', 4, [('trailer', 17, 0)]),
+    ('real', 'layout', 4, [('trailer', 1, N + 1)]),
+    ('class12', 'classes', tag('classes', 0), [('classes', 0, 0, 2)]),
+    ('class13', 'classes', out('classes', 0, 1), [('classes', 0, 1, BIG)]), ('class6', 'classes', 6, [('lists', 1, 1)]),
+    ('role13', 'roles', out('lists', 8), [('lists', 8, R)]), ('role6', 'roles', 6, [('lists', 7, 1)]),
+    ('inject13', 'injected', out('injected', 0, 2), [('injected', 0, 2, 2)]),
+    ('inject6', 'injected', 6, [('injected', 2, 0, 0)]),
+    ('concept12', 'concepts', tag('concepts', 3), [('concepts', 3, 0, 12)]),
+    ('concept13', 'concepts', out('concepts', 4, 1), [('concepts', 4, 1, 4)]),
+    ('concept14', 'concepts', filled('concepts', 2, 3), [('concepts', 2, 3, 1)]),
+    ('concept7', 'concepts', 7, [('concepts', 8, 2, 8)]),
+    ('axiom12', 'axioms', tag('axioms', 3), [('axioms', 3, 0, 26)]),
+    ('axiom13', 'axioms', out('axioms', 3, 1), [('axioms', 3, 1, N)]),
+    ('axiom14', 'axioms', filled('axioms', 0, 3), [('axioms', 0, 3, 1)]),
+    ('fact13', 'facts', out('facts', 0, 0), [('facts', 0, 0, N)]))
 
 
 def pairs():
-    for k, (one, first, edits) in enumerate(FAULTS):
-        for other, second, more in FAULTS[k + 1:]:
-            # Faults with one number cannot be told apart. Records of one part are tried below.
-            if first == second or one[:-1] == other[:-1]:
-                continue
-            if first > 4 or second < 5 or other in ('class6', 'concept7'):
+    for k, (one, part, first, edits) in enumerate(FAULTS):
+        for other, other_part, _, more in FAULTS[k + 1:]:
+            # Records of one part are tried below.
+            if part != other_part:
                 case('%s-before-%s' % (one, other), first, B, *edits, *more)
-    for name, _, edits in FAULTS[:6]:
+    for name, _, _, edits in FAULTS[:6]:
         case('odd-bytes-before-%s' % name, 1, B.edited(*edits).bytes() + b'\0')
     # The last count out of bounds against the first start; the first start against M.
     case('edition-count-start-real', 2, B, ('trailer', 0, 0), ('trailer', 3, 4097), ('trailer', 4, 9),
@@ -567,43 +644,70 @@ def pairs():
     case('count-start-real', 3, B, ('trailer', 15, BIG), ('trailer', 4, 9), ('trailer', 1, 9))
 
     # Inside one record.
-    case('class-flag-and-order', 5, B, ('classes', 1, 0, 2), ('lists', 1, 1))
-    case('class-range-and-order', 5, B, ('classes', 1, 2, 3), ('lists', 1, 1), ('lists', 2, 0), ('lists', 3, N))
-    case('class-order-then-member-out', 5, B, ('classes', 2, 1, 0), ('classes', 2, 2, 3), ('lists', 0, 0),
+    case('class-flag-and-order', tag('classes', 1), B, ('classes', 1, 0, 2), ('lists', 1, 1))
+    case('class-range-and-order', out('lists', 3), B, ('classes', 1, 2, 3), ('lists', 1, 1), ('lists', 2, 0),
+         ('lists', 3, N))
+    case('class-order-then-member-out', out('lists', 2), B, ('classes', 2, 1, 0), ('classes', 2, 2, 3), ('lists', 0, 0),
          ('classes', 0, 0, 1), ('classes', 0, 2, 0), ('classes', 1, 0, 1), ('classes', 1, 2, 0), ('lists', 1, 0),
          ('lists', 2, N))
-    case('class-own-absent-and-member-out', 5, B, ('lists', 2, N))
-    case('class-flag-and-own-absent', 5, B, ('classes', 0, 0, 2), ('classes', 0, 2, 0))
-    case('class-list-out-and-own-absent', 5, B, ('classes', 0, 1, BIG))
-    case('role-first-row-order-second-member', 5, B, ('lists', 7, 1), ('lists', 10, N))
-    case('role-first-row-order-second-list', 5, B, ('lists', 7, 1), ('roles', 1, 2, BIG))
-    case('role-first-row-own-second-member', 5, B, ('lists', 5, 1), ('lists', 6, N))
-    case('role-first-row-own-second-list', 5, B, ('lists', 5, 1), ('roles', 0, 3, BIG))
-    case('role-first-row-list-second-order', 5, B, ('roles', 1, 0, BIG), ('lists', 9, 2))
-    case('role-first-row-member-second-order', 5, B, ('lists', 8, R), ('lists', 9, 2))
+    case('class-own-absent-and-member-out', out('lists', 2), B, ('lists', 2, N))
+    case('class-flag-and-own-absent', tag('classes', 0), B, ('classes', 0, 0, 2), ('classes', 0, 2, 0))
+    case('class-list-out-and-own-absent', out('classes', 0, 1), B, ('classes', 0, 1, BIG))
+    case('role-first-row-order-second-member', out('lists', 10), B, ('lists', 7, 1), ('lists', 10, N))
+    case('role-first-row-order-second-list', out('roles', 1, 2), B, ('lists', 7, 1), ('roles', 1, 2, BIG))
+    case('role-first-row-own-second-member', out('lists', 6), B, ('lists', 5, 1), ('lists', 6, N))
+    case('role-first-row-own-second-list', out('roles', 0, 2), B, ('lists', 5, 1), ('roles', 0, 3, BIG))
+    case('role-first-row-list-second-order', out('roles', 1, 0), B, ('roles', 1, 0, BIG), ('lists', 9, 2))
+    case('role-first-row-member-second-order', out('lists', 8), B, ('lists', 8, R), ('lists', 9, 2))
     case('role-both-rows-out-of-order', 6, B, ('lists', 7, 1), ('lists', 9, 2))
-    case('injected-range-and-order', 5, B, ('injected', 1, 1, 0), ('injected', 1, 2, 2))
-    case('injected-r-out-and-y-falls', 5, B, ('injected', 0, 0, 1), ('injected', 1, 0, 0), ('injected', 1, 1, R))
-    case('concept-6-itself-then-member-out', 5, B, ('lists', B.concepts[6][1], 6), ('lists', B.concepts[6][1] + 1, C))
-    case('concept-7-member-out-then-itself', 5, B, ('lists', B.concepts[7][1], C), ('lists', B.concepts[7][1] + 2, 7))
-    case('concept-7-itself-and-field-filled', 5, B, ('lists', B.concepts[7][1], 7), ('concepts', 7, 3, 1))
-    case('concept-5-itself-and-field-filled', 5, B, ('concepts', 5, 1, 5), ('concepts', 5, 3, 1))
-    case('concept-8-itself-and-role-out', 5, B, ('concepts', 8, 2, 8), ('concepts', 8, 1, 4))
-    case('concept-9-itself-and-field-filled', 5, B, ('concepts', 9, 2, 9), ('concepts', 9, 3, 1))
-    case('concept-10-itself-and-role-out', 5, B, ('concepts', 10, 3, 10), ('concepts', 10, 2, 4))
-    case('concept-6-itself-and-list-out', 5, B, ('lists', B.concepts[6][1], 6), ('concepts', 6, 2, L))
+    case('injected-range-and-order', out('injected', 1, 2), B, ('injected', 1, 1, 0), ('injected', 1, 2, 2))
+    case('injected-r-out-and-y-falls', out('injected', 1, 1), B, ('injected', 0, 0, 1), ('injected', 1, 0, 0),
+         ('injected', 1, 1, R))
+    case('concept-6-itself-then-member-out', out('lists', 12), B, ('lists', B.concepts[6][1], 6),
+         ('lists', B.concepts[6][1] + 1, C))
+    case('concept-7-member-out-then-itself', out('lists', 13), B, ('lists', B.concepts[7][1], C),
+         ('lists', B.concepts[7][1] + 2, 7))
+    case('concept-7-itself-and-field-filled', filled('concepts', 7, 3), B, ('lists', B.concepts[7][1], 7),
+         ('concepts', 7, 3, 1))
+    case('concept-5-itself-and-field-filled', filled('concepts', 5, 3), B, ('concepts', 5, 1, 5), ('concepts', 5, 3, 1))
+    case('concept-8-itself-and-role-out', out('concepts', 8, 1), B, ('concepts', 8, 2, 8), ('concepts', 8, 1, 4))
+    case('concept-9-itself-and-field-filled', filled('concepts', 9, 3), B, ('concepts', 9, 2, 9), ('concepts', 9, 3, 1))
+    case('concept-10-itself-and-role-out', out('concepts', 10, 2), B, ('concepts', 10, 3, 10), ('concepts', 10, 2, 4))
+    case('concept-6-itself-and-list-out', out('concepts', 6, 1), B, ('lists', B.concepts[6][1], 6),
+         ('concepts', 6, 2, L))
 
     # Neighbouring records of one part.
-    case('class-6-before-next-class-5', 6, B, ('lists', 0, 1), ('classes', 1, 0, 2))
-    case('class-5-before-next-class-6', 5, B, ('classes', 0, 0, 2), ('lists', 1, 1))
-    case('role-6-before-next-role-5', 6, B, ('lists', 5, 1), ('lists', 10, N))
-    case('role-5-before-next-role-6', 5, B, ('lists', 6, N), ('lists', 7, 1))
-    case('injected-6-before-next-5', 6, B, ('injected', 1, 1, 0), ('injected', 2, 2, 2))
-    case('injected-5-before-next-6', 5, B, ('injected', 1, 2, 2), ('injected', 2, 0, 0))
-    case('injected-5-that-breaks-the-next-order', 5, B, ('injected', 1, 0, N))
-    case('concept-7-before-next-concept-5', 7, B, ('concepts', 5, 1, 5), ('concepts', 6, 3, 1))
-    case('concept-5-before-next-concept-7', 5, B, ('concepts', 4, 1, 4), ('concepts', 5, 1, 5))
-    case('concept-7-before-last-concept-5', 7, B, ('concepts', 5, 1, 11), ('concepts', 11, 0, 12))
+    case('class-6-before-next-class-12', 6, B, ('lists', 0, 1), ('classes', 1, 0, 2))
+    case('class-12-before-next-class-6', tag('classes', 0), B, ('classes', 0, 0, 2), ('lists', 1, 1))
+    case('role-6-before-next-role-13', 6, B, ('lists', 5, 1), ('lists', 10, N))
+    case('role-13-before-next-role-6', out('lists', 6), B, ('lists', 6, N), ('lists', 7, 1))
+    case('injected-6-before-next-13', 6, B, ('injected', 1, 1, 0), ('injected', 2, 2, 2))
+    case('injected-13-before-next-6', out('injected', 1, 2), B, ('injected', 1, 2, 2), ('injected', 2, 0, 0))
+    case('injected-13-that-breaks-the-next-order', out('injected', 1, 0), B, ('injected', 1, 0, N))
+    case('concept-7-before-next-concept-14', 7, B, ('concepts', 5, 1, 5), ('concepts', 6, 3, 1))
+    case('concept-13-before-next-concept-7', out('concepts', 4, 1), B, ('concepts', 4, 1, 4), ('concepts', 5, 1, 5))
+    case('concept-7-before-last-concept-12', 7, B, ('concepts', 5, 1, 11), ('concepts', 11, 0, 12))
+
+
+def written(text):
+    """The deck of a text of heaps.py."""
+    d, records = Deck(), {letter: [] for letter in 'MNRICAFL'}
+    for word_ in text.split():
+        if word_ in records:
+            now = records[word_]
+        else:
+            now.append(int(word_))
+    for letter, part, width in zip('NRICAFL', PARTS, WIDTHS):
+        flat = records[letter]
+        setattr(d, part, flat if width == 1 else [flat[k:k + width] for k in range(0, len(flat), width)])
+    d.real = records['M'][0] if records['M'] else len(d.classes)
+    return d
+
+
+def heaps():
+    for part, decks in HAND_MADE:
+        for name, expected, text in decks:
+            case('heap-%s-%s' % (part, name), expected, written(text))
 
 
 def limits():
@@ -621,11 +725,12 @@ def limits():
     everything.dropped = BIG
     case('limit-all', 0, everything)
     for name, expected, edit in (
-            ('class-5', 5, ('classes', 4095, 0, 2)), ('class-6', 6, ('classes', 4095, 2, 0)),
-            ('role-5', 5, ('roles', 1023, 3, BIG)), ('role-6', 6, ('roles', 1023, 0, 1022)),
-            ('injected-5', 5, ('injected', 4095, 2, 4096)), ('injected-6', 6, ('injected', 4095, 0, 4094)),
-            ('concept-5', 5, ('concepts', 16383, 1, 16384)), ('concept-7', 7, ('concepts', 16383, 1, 16383)),
-            ('axiom-5', 5, ('axioms', 16383, 3, 1)), ('fact-5', 5, ('facts', 16383, 2, 4096)),
+            ('class-12', (12, 12285), ('classes', 4095, 0, 2)), ('class-6', 6, ('classes', 4095, 2, 0)),
+            ('role-13', (13, 16382), ('roles', 1023, 3, BIG)), ('role-6', 6, ('roles', 1023, 0, 1022)),
+            ('injected-13', (13, 28671), ('injected', 4095, 2, 4096)), ('injected-6', 6, ('injected', 4095, 0, 4094)),
+            ('concept-13', (13, 94205), ('concepts', 16383, 1, 16384)),
+            ('concept-7', 7, ('concepts', 16383, 1, 16383)), ('axiom-12', (12, 159740), ('axioms', 16383, 0, 26)),
+            ('axiom-14', (14, 159743), ('axioms', 16383, 3, 1)), ('fact-13', (13, 208895), ('facts', 16383, 2, 4096)),
             ('list-free', 0, ('lists', 262143, BIG))):
         case('limit-all-last-' + name, expected, everything, edit)
     case('limit-all-and-a-word', 4, b'\0' * 4 + everything.bytes())
@@ -636,9 +741,10 @@ def limits():
     case('list-of-all-words', 0, zeros, ('concepts', 1, slice(0, 4), [6, 0, 262144, 0]))
     case('list-of-all-words-last-itself', 7, zeros, ('concepts', 1, slice(0, 4), [6, 0, 262144, 0]),
          ('lists', 262143, 1))
-    case('list-of-all-words-last-out', 5, zeros, ('concepts', 1, slice(0, 4), [6, 0, 262144, 0]), ('lists', 262143, 2))
-    case('list-of-all-words-and-one', 5, zeros, ('concepts', 1, slice(0, 4), [6, 0, 262145, 0]))
-    case('list-of-all-words-from-1', 5, zeros, ('concepts', 1, slice(0, 4), [6, 1, 262144, 0]))
+    case('list-of-all-words-last-out', (13, 262162), zeros, ('concepts', 1, slice(0, 4), [6, 0, 262144, 0]),
+         ('lists', 262143, 2))
+    case('list-of-all-words-and-one', (13, 12), zeros, ('concepts', 1, slice(0, 4), [6, 0, 262145, 0]))
+    case('list-of-all-words-from-1', (13, 12), zeros, ('concepts', 1, slice(0, 4), [6, 1, 262144, 0]))
     case('list-empty-at-262144', 0, zeros, ('concepts', 1, slice(0, 4), [6, 262144, 0, 0]))
     long_row = full(classes=4096, lists=4096)
     case('row-of-all-classes', 0, long_row, ('classes', 4095, 1, 0), ('classes', 4095, 2, 4096))
@@ -660,7 +766,7 @@ def worked_example():
         seen.add((place, value))
         changed = words[:place] + [value] + words[place + 1:]
         data = struct.pack('<%dI' % len(words), *changed)
-        add('w-word-%d-is-%d' % (place, value), data, number(data))
+        add('w-word-%d-is-%d' % (place, value), data, answer(data))
 
 
 def random_deck(rng):
@@ -706,27 +812,67 @@ def random_deck(rng):
     return d
 
 
-def damaged(rng, deck):
-    """One or two words changed, most often in the records; sometimes also a byte cut off or a word taken out."""
+def damage(rng, deck):
+    """One to three faults, most of them in the body: a word overwritten, counted up or down, put in another's place, or
+    some words moved on by one. Seldom a word or a byte is lost."""
     words = deck.words()
-    for _ in range(rng.choice((1, 1, 2))):
-        body = len(words) - 18
-        place = rng.randrange(body) if body > 0 and rng.randrange(8) else rng.randrange(len(words))
-        near = (words[place] + rng.choice((-1, 1))) % (1 << 32)
-        words[place] = rng.choice((near, near, rng.randrange(6), rng.randrange(26), BIG))
-    if rng.randrange(40) == 0:
+    body = len(words) - 18
+    tags = [words[-14 + 2 * p] + k * WIDTHS[p] for p in (0, 3, 4) for k in range(words[-15 + 2 * p])]
+    for _ in range(rng.choice((1, 1, 1, 2, 3))):
+        where = rng.randrange(24) if body else 0
+        at = body + rng.randrange(18) if where == 0 else rng.choice(tags) if where < 6 and tags else rng.randrange(body)
+        how = rng.randrange(10)
+        if how < 4:
+            words[at] = rng.choice((rng.randrange(4), rng.randrange(30), 1 << rng.randrange(32), BIG))
+        elif how < 7:
+            words[at] = (words[at] + rng.choice((-1, 1, 1, 2))) % (1 << 32)
+        elif how < 8 or at >= body:
+            words[at] = rng.choice(words)
+        else:
+            end = min(at + rng.randrange(2, 7), body)
+            words[at:end] = words[end - 1:end] + words[at:end - 1]
+    if rng.randrange(80) == 0:
         del words[rng.randrange(len(words))]
     data = struct.pack('<%dI' % len(words), *words)
-    return data[:-1] if rng.randrange(60) == 0 else data
+    return data[:-1] if rng.randrange(120) == 0 else data
 
 
 def random_decks():
     rng = random.Random(1001)
     for k in range(12):
         case('random-%d' % k, 0, random_deck(rng))
-    for k in range(40):
-        data = damaged(rng, random_deck(rng))
-        add('damaged-%d' % k, data, number(data))
+
+
+def damaged_decks():
+    rng = random.Random(1002)
+    good = [(B, 700), (deck_w(), 300)] + [(random_deck(rng), 10) for _ in range(300)]
+    for k, deck in enumerate(deck for deck, times in good for _ in range(times)):
+        data = damage(rng, deck)
+        add('damaged-%d' % k, data, answer(data))
+
+
+# --- What the damaged decks show ------------------------------------------------------------------------------------
+
+SHOWN = [(TAG, part) for part in ('classes', 'concepts', 'axioms')] + [(RANGE, part) for part in PARTS] + [
+    (FILLED, part) for part in ('concepts', 'axioms')]
+
+
+def part_of(data, at):
+    """The part in which a word lies."""
+    return max((start, p, part) for p, (part, start) in enumerate(Reader(data).start.items()) if start <= at)[2]
+
+
+def show_damaged():
+    """Prints how often each number was met, and in which part the word lies. Each heap must be met in each part."""
+    found = [(given, data) for name, data, given in CASES if name.startswith('damaged')]
+    numbers = collections.Counter(given[0] for given, _ in found)
+    print('damaged decks: %d; by number: %s' % (
+        len(found), ', '.join('%d: %d' % pair for pair in sorted(numbers.items()))))
+    places = collections.Counter((given[0], part_of(data, given[1])) for given, data in found if len(given) == 2)
+    print('words: ' + ', '.join('%d in %s %d' % (*place, places[place]) for place in SHOWN))
+    missing = [place for place in SHOWN if not places[place]]
+    if missing or set(places) - set(SHOWN):
+        sys.exit('heaps not as they should be: %s' % (missing or places))
 
 
 # --- Writing --------------------------------------------------------------------------------------------------------
@@ -742,8 +888,16 @@ def repeated(words, at, width):
     return end - at, steps
 
 
-def runs(words):
-    """The runs: [count, 0, words..] and [count, width, steps..]."""
+def kept(words, at, before):
+    """How many words from `at` on stand there already."""
+    end = at
+    while end < min(len(words), len(before)) and words[end] == before[end]:
+        end += 1
+    return end - at
+
+
+def runs(words, before=()):
+    """The runs: [count, 0, words..], [count, width, steps..] and [count, 5]."""
     made, plain, at = [], [], 0
 
     def flush():
@@ -754,7 +908,12 @@ def runs(words):
     while at < len(words):
         count, width, steps = max((found[0], width, found[1]) for width in (1, 2, 3, 4)
                                   for found in [repeated(words, at, width)])
-        if count >= 12:
+        stays = kept(words, at, before)
+        if stays >= max(count, 4):
+            flush()
+            made.append([stays, KEPT])
+            at += stays
+        elif count >= 12:
             flush()
             made.append([count, width] + (steps + [0] * width)[:width])
             at += count
@@ -765,20 +924,32 @@ def runs(words):
     return made
 
 
-def encoded(name, data):
+def encoded(name, data, before=None):
+    """A deck with a name. `before` is what the decks before it left; without it, no word is taken from there."""
     whole = padded(data)
-    made = runs(struct.unpack('<%dI' % (len(whole) // 4), whole))
+    words = struct.unpack('<%dI' % (len(whole) // 4), whole)
+    made = runs(words, before or ())
+    if before is not None:
+        before[:len(words)] = words
     label = padded(name.encode())
-    flat = [word for run in made for word in run]
+    flat = [word_ for run in made for word_ in run]
     return struct.pack('<3I', len(name), len(data), len(made)) + label + struct.pack('<%dI' % len(flat), *flat)
 
 
-def main():
+def make_cases():
     for make in (lengths, editions, counts, starts, class_rows, role_rows, injected, concepts, axioms, facts, lists,
-                 pairs, limits, worked_example, random_decks):
+                 pairs, heaps, limits, worked_example, random_decks, damaged_decks):
         make()
-    given = b''.join(encoded(name, data) for name, data, _ in CASES)
-    wanted = ''.join('%s %d\n' % (name, found) for name, _, found in CASES) + '%d decks\n' % len(CASES)
+
+
+def main():
+    make_cases()
+    show_damaged()
+    room = []
+    given = b''.join(encoded(name, data, room) for name, data, _ in CASES)
+    wanted = ''.join('%s %s\n' % (name, ' '.join(map(str, found))) for name, _, found in CASES)
+    wanted += '%d decks\n' % len(CASES)
+    assert len(given) <= ROOM, len(given)
     finish('test_deck', given, wanted.encode(), '%d decks, %d bytes of data' % (len(CASES), len(given)))
 
 

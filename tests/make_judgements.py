@@ -925,9 +925,10 @@ def absent():
     words = b.bytes()
     decks = ((1, words[:-1]), (1, b''), (2, b.edited(('trailer', 0, 2)).bytes()),
              (3, b.edited(('trailer', 15, 262145)).bytes()), (4, b.edited(('trailer', 4, 1)).bytes()),
-             (5, b.edited(('classes', 0, 0, 2)).bytes()), (5, b.edited(('axioms', 25, 0, 26)).bytes()),
-             (5, b.edited(('facts', 1, 0, 3)).bytes()), (6, b.edited(('lists', 1, 1)).bytes()),
-             (7, b.edited(('concepts', 8, 2, 8)).bytes()))
+             (12, b.edited(('classes', 0, 0, 2)).bytes()), (12, b.edited(('axioms', 25, 0, 26)).bytes()),
+             (13, b.edited(('facts', 1, 0, 3)).bytes()), (6, b.edited(('lists', 1, 1)).bytes()),
+             (7, b.edited(('concepts', 8, 2, 8)).bytes()), (14, b.edited(('concepts', 0, 3, 1)).bytes()),
+             (13, b.edited(('lists', 1, 9)).bytes()))
     for k, (expected, data) in enumerate(decks):
         refused('deck-%d-first-%d' % (expected, k), expected, data, Lent([], 3, [(9, 9, 9)], 2), concept=99, element=99,
                 axiom=99)

@@ -97,8 +97,9 @@ def outcomes():
 
 def refusals():
     b = base()
-    edits = ((2, ('trailer', 0, 2)), (3, ('trailer', 3, 4097)), (4, ('trailer', 17, 5)), (5, ('axioms', 25, 0, 26)),
-             (6, ('lists', 1, 1)), (7, ('concepts', 8, 2, 8)))
+    edits = ((2, ('trailer', 0, 2)), (3, ('trailer', 3, 4097)), (4, ('trailer', 17, 5)), (6, ('lists', 1, 1)),
+             (7, ('concepts', 8, 2, 8)), (12, ('axioms', 25, 0, 26)), (13, ('facts', 1, 0, 3)),
+             (14, ('concepts', 0, 3, 1)))
     for expected, edit in edits:
         case('refused-%d' % expected, b.edited(edit), 'refused %d' % expected)
     for size in (0, 1, 4, 71, 73, 65535):
@@ -115,7 +116,7 @@ def classes():
     case('classes-256', full(classes=256), 'confirmed 256 0 0')
     case('classes-257', full(classes=257), 'refused 9')
     d = full(classes=257, axioms=1)
-    case('classes-257-fault-before', d.edited(('axioms', 0, 0, 26)), 'refused 5')
+    case('classes-257-fault-before', d.edited(('axioms', 0, 0, 26)), 'refused 12')
     d = Deck()
     d.classes = [[1, 0, 0]] * 256
     case('classes-256-unsatisfiable', d, 'confirmed 0 0 0')

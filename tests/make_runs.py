@@ -900,21 +900,22 @@ def every_tag():
 
 
 def malformed():
-    """Refusals 1 to 7, before 8 and 9; no buffer changes."""
+    """Refusals of the deck, before 8 and 9; no buffer changes."""
     b = base()
     data = b.bytes()
     decks = ((1, b''), (1, data[:-1]), (1, data[-68:]), (2, b.edited(('trailer', 0, 2)).bytes()),
              (2, b.edited(('trailer', 0, 0)).bytes()), (3, b.edited(('trailer', 3, 4097)).bytes()),
              (3, b.edited(('trailer', 15, 262145)).bytes()), (4, b.edited(('trailer', 4, 1)).bytes()),
              (4, b.edited(('real', 4)).bytes()), (4, b.edited(('trailer', 17, 5)).bytes()),
-             (5, b.edited(('classes', 0, 0, 2)).bytes()), (5, b.edited(('injected', 0, 2, 2)).bytes()),
-             (5, b.edited(('axioms', 25, 0, 26)).bytes()), (5, b.edited(('facts', 1, 0, 3)).bytes()),
+             (12, b.edited(('classes', 0, 0, 2)).bytes()), (13, b.edited(('injected', 0, 2, 2)).bytes()),
+             (12, b.edited(('axioms', 25, 0, 26)).bytes()), (13, b.edited(('facts', 1, 0, 3)).bytes()),
              (6, b.edited(('lists', 1, 1)).bytes()), (6, b.edited(('injected', 1, 1, 0)).bytes()),
-             (7, b.edited(('concepts', 8, 2, 8)).bytes()), (7, b.edited(('concepts', 5, 1, 11)).bytes()))
+             (7, b.edited(('concepts', 8, 2, 8)).bytes()), (7, b.edited(('concepts', 5, 1, 11)).bytes()),
+             (14, b.edited(('concepts', 0, 3, 1)).bytes()), (14, b.edited(('axioms', 25, 3, 1)).bytes()))
     room = Room(10, 13, 6, 104)
     for k, (expected, deck) in enumerate(decks):
         refused('malformed-%d-%d' % (expected, k), expected, deck, room=room)
-    for expected, deck in (decks[1], decks[4], decks[6], decks[9], decks[13], decks[14], decks[16]):
+    for expected, deck in (decks[k] for k in (1, 4, 6, 9, 12, 13, 14, 16, 19)):
         refused('malformed-%d-before-8' % expected, expected, deck, Bounds(BIG, BIG, BIG), last=0, room=room)
         refused('malformed-%d-before-9' % expected, expected, deck, room=Room(0, 0, 0, 0))
 

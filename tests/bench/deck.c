@@ -2,6 +2,10 @@
 // sum_words of libbench_deck.a, which the compiler vectorises, and a loop in C that adds a word at a time.
 // All seven counts are at their limits, and rows, operand lists and axiom lists together name each list word once.
 // Then the same with tags in no order, and a deck of which every concept and axiom names all list words.
+//
+// The check against that of another libbench_deck.a, turn by turn in one run:
+//     objcopy --redefine-sym check_deck_number=check_before -L sum_words OTHER/libbench_deck.a target/before.a
+//     gcc -O2 -DBEFORE -o target/bench_ratio tests/bench/deck.c target/staticlib/libbench_deck.a target/before.a
 #include <stdint.h>
 #include <stdio.h>
 #include <stdlib.h>
@@ -132,12 +136,6 @@ static size_t make_overlapping(void) {
     return (size_t)(out - words) * 4;
 }
 
-__attribute__((noinline, optimize("no-tree-vectorize"))) static uint32_t sum_plain(const uint32_t *word, size_t count) {
-    uint32_t sum = 0;
-    for (size_t k = 0; k < count; k++) sum += word[k];
-    return sum;
-}
-
 static double now(void) {
     struct timespec t;
     clock_gettime(CLOCK_MONOTONIC, &t);
@@ -145,6 +143,42 @@ static double now(void) {
 }
 
 static double least(double a, double b) { return a < b ? a : b; }
+
+#ifdef BEFORE
+extern uint32_t check_before(const uint8_t *deck, size_t length);
+
+// The least times of both checks, of so many turns each, and their ratio.
+static uint32_t ratio(const char *name, size_t bytes, int turns) {
+    const uint8_t *deck = (const uint8_t *)words;
+    double now_least = 1e12, before_least = 1e12;
+    uint32_t answer = 0;
+    while (turns-- > 0) {
+        double a = now();
+        answer |= check_deck_number(deck, bytes);
+        double b = now();
+        answer |= check_before(deck, bytes);
+        double c = now();
+        now_least = least(now_least, b - a), before_least = least(before_least, c - b);
+    }
+    printf("%-18s %9.1f us, before %9.1f us, ratio %.3f\n", name, now_least, before_least, now_least / before_least);
+    return answer;
+}
+
+int main(void) {
+    make_deck();
+    uint32_t answer = ratio("check", sizeof words, 2000);
+    mixed = 1;
+    make_deck();
+    answer |= ratio("tags mixed", sizeof words, 2000);
+    answer |= ratio("overlapping lists", make_overlapping(), 3);
+    return answer != 0;
+}
+#else
+__attribute__((noinline, optimize("no-tree-vectorize"))) static uint32_t sum_plain(const uint32_t *word, size_t count) {
+    uint32_t sum = 0;
+    for (size_t k = 0; k < count; k++) sum += word[k];
+    return sum;
+}
 
 // The least time of a check, of so many turns; answer collects what it says.
 static double check_least(size_t bytes, int turns, uint32_t *answer) {
@@ -182,3 +216,4 @@ int main(void) {
     printf("check, overlapping lists %.2f s\n", check_least(make_overlapping(), 1, &answer) / 1e6);
     return answer != 0 || sum != plain_sum;
 }
+#endif

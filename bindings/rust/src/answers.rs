@@ -1,51 +1,77 @@
 //! Answers, read off the words of document 01.
-use crate::numbers::{ClassId, Element, RoleId};
+use crate::ffi;
+use crate::numbers::{ClassId, Element, RoleId, WordIndex};
 use std::error::Error;
 use std::fmt;
 
-/// Why a deck, a run or a question is refused. The numbers are document 01's.
+/// Why a deck, a run or a question is refused. The numbers are document 01's and 02's; 5 is retired. The last three have the
+/// word at which the deck's first fault lies.
 #[derive(Clone, Copy, Debug, PartialEq, Eq, PartialOrd, Ord, Hash)]
-#[repr(u32)]
 pub enum Refusal {
-    TooShort = 1,
-    UnknownEdition = 2,
-    CountOverLimit = 3,
-    BadLayout = 4,
-    BadField = 5,
-    BadOrder = 6,
-    ForwardOperand = 7,
-    BadBounds = 8,
-    ShortBuffer = 9,
-    ForeignStructure = 10,
-    AbsentIndex = 11,
+    TooShort,
+    UnknownEdition,
+    CountOverLimit,
+    BadLayout,
+    BadOrder,
+    ForwardOperand,
+    BadBounds,
+    ShortBuffer,
+    ForeignStructure,
+    AbsentIndex,
+    UnknownTag(WordIndex),
+    OutOfRange(WordIndex),
+    FilledField(WordIndex),
 }
 
 impl Refusal {
-    pub const ALL: [Refusal; 11] = [
-        Refusal::TooShort,
-        Refusal::UnknownEdition,
-        Refusal::CountOverLimit,
-        Refusal::BadLayout,
-        Refusal::BadField,
-        Refusal::BadOrder,
-        Refusal::ForwardOperand,
-        Refusal::BadBounds,
-        Refusal::ShortBuffer,
-        Refusal::ForeignStructure,
-        Refusal::AbsentIndex,
-    ];
-
     pub fn number(self) -> u32 {
-        self as u32
+        match self {
+            Refusal::TooShort => 1,
+            Refusal::UnknownEdition => 2,
+            Refusal::CountOverLimit => 3,
+            Refusal::BadLayout => 4,
+            Refusal::BadOrder => 6,
+            Refusal::ForwardOperand => 7,
+            Refusal::BadBounds => 8,
+            Refusal::ShortBuffer => 9,
+            Refusal::ForeignStructure => 10,
+            Refusal::AbsentIndex => 11,
+            Refusal::UnknownTag(_) => 12,
+            Refusal::OutOfRange(_) => 13,
+            Refusal::FilledField(_) => 14,
+        }
     }
 
-    pub(crate) fn unless_zero(number: u32) -> Result<(), Refusal> {
-        match number {
-            0 => Ok(()),
-            n => Err(*Refusal::ALL.get(n as usize - 1).unwrap_or_else(|| {
-                unreachable!("the library is proved to return 0 to 11, not {n}")
-            })),
+    /// The word at which the fault lies, for 12, 13 and 14.
+    pub fn word(self) -> Option<WordIndex> {
+        match self {
+            Refusal::UnknownTag(word) | Refusal::OutOfRange(word) | Refusal::FilledField(word) => {
+                Some(word)
+            }
+            _ => None,
         }
+    }
+
+    /// Of the number that a call over the deck returned. For 12, 13 and 14 the deck is asked for the word.
+    pub(crate) fn unless_zero(number: u32, deck: &[u8]) -> Result<(), Refusal> {
+        let word = || WordIndex(ffi::fault_word(deck));
+        Err(match number {
+            0 => return Ok(()),
+            1 => Refusal::TooShort,
+            2 => Refusal::UnknownEdition,
+            3 => Refusal::CountOverLimit,
+            4 => Refusal::BadLayout,
+            6 => Refusal::BadOrder,
+            7 => Refusal::ForwardOperand,
+            8 => Refusal::BadBounds,
+            9 => Refusal::ShortBuffer,
+            10 => Refusal::ForeignStructure,
+            11 => Refusal::AbsentIndex,
+            12 => Refusal::UnknownTag(word()),
+            13 => Refusal::OutOfRange(word()),
+            14 => Refusal::FilledField(word()),
+            n => unreachable!("the library is proved to return 0 to 4 or 6 to 14, not {n}"),
+        })
     }
 
     fn given_when(self) -> &'static str {
@@ -54,22 +80,26 @@ impl Refusal {
             Refusal::UnknownEdition => "edition is not 1",
             Refusal::CountOverLimit => "a count above its limit",
             Refusal::BadLayout => "a start, body count or M does not fit",
-            Refusal::BadField => {
-                "unknown tag or flag, number or list out of range, unused field filled"
-            }
             Refusal::BadOrder => "order broken, or own number absent from a row",
             Refusal::ForwardOperand => "operand not below its concept",
             Refusal::BadBounds => "a bound above its limit",
             Refusal::ShortBuffer => "label, edge or verdict buffer below need",
             Refusal::ForeignStructure => "a structure that does not fit the deck",
             Refusal::AbsentIndex => "axiom, concept or element index past its count",
+            Refusal::UnknownTag(_) => "unknown tag or flag",
+            Refusal::OutOfRange(_) => "number or list out of range",
+            Refusal::FilledField(_) => "unused field filled",
         }
     }
 }
 
 impl fmt::Display for Refusal {
     fn fmt(&self, f: &mut fmt::Formatter<'_>) -> fmt::Result {
-        write!(f, "refused {}: {}", self.number(), self.given_when())
+        write!(f, "refused {}: {}", self.number(), self.given_when())?;
+        match self.word() {
+            Some(word) => write!(f, " at word {}", word.0),
+            None => Ok(()),
+        }
     }
 }
 

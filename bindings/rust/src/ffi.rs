@@ -21,6 +21,8 @@ pub const REPORT_BYTES: usize = 204_864;
 extern "C" {
     fn style_deck_check(deck: *const u8, deck_length: usize) -> u32;
 
+    fn style_deck_fault_word(deck: *const u8, deck_length: usize) -> u32;
+
     fn style_deck_eval_concept(
         deck: *const u8,
         deck_length: usize,
@@ -96,6 +98,12 @@ fn on_own_stack<T: Send>(call: impl FnOnce() -> T + Send) -> T {
 pub fn check(deck: &[u8]) -> u32 {
     // SAFETY: the slice is lent whole; the function is not recursive.
     unsafe { style_deck_check(deck.as_ptr(), deck.len()) }
+}
+
+/// The word of the deck's refusal 12, 13 or 14.
+pub fn fault_word(deck: &[u8]) -> u32 {
+    // SAFETY: as for `check`.
+    unsafe { style_deck_fault_word(deck.as_ptr(), deck.len()) }
 }
 
 /// Asks one of the two questions about a structure: the arguments that both have, and its own. More edges than a count can

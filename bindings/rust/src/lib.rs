@@ -20,7 +20,7 @@ mod structure;
 
 pub use answers::{Judgement, Outcome, Reason, Refusal, Unhandled, Verdict};
 pub use ffi::{REPORT_BYTES, STACK_BYTES};
-pub use numbers::{Bounds, ClassId, ConceptId, Edge, Element, Phase, RoleId};
+pub use numbers::{Bounds, ClassId, ConceptId, Edge, Element, Phase, RoleId, WordIndex};
 pub use structure::Structure;
 
 use answers::reasons_of;
@@ -66,15 +66,15 @@ pub struct Summary {
     pub reasons: u32,
 }
 
-/// Is the deck in order? A refusal is one of 1 to 7.
+/// Is the deck in order? A refusal is one of 1 to 4, 6, 7 and 12 to 14.
 pub fn check_deck(deck: &[u8]) -> Result<(), Refusal> {
-    Refusal::unless_zero(ffi::check(deck))
+    Refusal::unless_zero(ffi::check(deck), deck)
 }
 
 /// Reads the deck, builds its structure within the bounds up to the last phase, and judges every axiom in it.
 ///
 /// # Errors
-/// 1 to 7 for the deck, then [`Refusal::BadBounds`].
+/// As [`check_deck`] for the deck, then [`Refusal::BadBounds`].
 ///
 /// # Panics
 /// If the system gives no thread.
@@ -108,7 +108,7 @@ pub fn run(deck: &[u8], bounds: Bounds, last_phase: Phase) -> Result<Run, Refusa
 /// all of it is.
 ///
 /// # Errors
-/// 1 to 7 for the deck, then [`Refusal::BadBounds`], then [`Refusal::ShortBuffer`].
+/// As [`check_deck`] for the deck, then [`Refusal::BadBounds`], then [`Refusal::ShortBuffer`].
 ///
 /// # Panics
 /// If the system gives no thread.
@@ -119,7 +119,8 @@ pub fn run_in(
     lent: Lent<'_>,
 ) -> Result<Summary, Refusal> {
     let mut answer = [0; 4];
-    Refusal::unless_zero(ffi::run(deck, bounds, last_phase, lent, &mut answer))?;
+    let number = ffi::run(deck, bounds, last_phase, lent, &mut answer);
+    Refusal::unless_zero(number, deck)?;
     let [outcome, elements, edges, reasons] = answer;
     Ok(Summary {
         outcome: Outcome::of_word(outcome),
@@ -156,7 +157,7 @@ pub fn report_in(input: &[u8], out: &mut [u8]) -> Option<usize> {
 /// Is the element in the concept, in that structure?
 ///
 /// # Errors
-/// 1 to 7 for the deck, then [`Refusal::ForeignStructure`], then [`Refusal::AbsentIndex`].
+/// As [`check_deck`] for the deck, then [`Refusal::ForeignStructure`], then [`Refusal::AbsentIndex`].
 ///
 /// # Panics
 /// If the system gives no thread.
@@ -168,7 +169,7 @@ pub fn eval_concept(
 ) -> Result<Judgement, Refusal> {
     let mut answer = [0; 4];
     let number = ffi::eval_concept(deck, structure, concept, element, &mut answer);
-    Refusal::unless_zero(number)?;
+    Refusal::unless_zero(number, deck)?;
     Ok(Judgement::of_words(answer))
 }
 
@@ -181,6 +182,7 @@ pub fn eval_concept(
 /// If the system gives no thread.
 pub fn check_axiom(deck: &[u8], structure: &Structure, axiom: u32) -> Result<Verdict, Refusal> {
     let mut answer = [0; 4];
-    Refusal::unless_zero(ffi::check_axiom(deck, structure, axiom, &mut answer))?;
+    let number = ffi::check_axiom(deck, structure, axiom, &mut answer);
+    Refusal::unless_zero(number, deck)?;
     Ok(Verdict::of_words(&answer))
 }

@@ -16,6 +16,11 @@ pub struct ConceptId(pub u32);
 #[repr(transparent)]
 pub struct Element(pub u32);
 
+/// A word of a deck, counted from word 0: it stands from byte 4 × its number on.
+#[derive(Clone, Copy, Debug, Default, PartialEq, Eq, PartialOrd, Ord, Hash)]
+#[repr(transparent)]
+pub struct WordIndex(pub u32);
+
 /// Three words, in this order; the library sees an array of them.
 #[derive(Clone, Copy, Debug, Default, PartialEq, Eq, PartialOrd, Ord, Hash)]
 #[repr(C)]

@@ -1,10 +1,10 @@
 //! Each refusal can be met from Rust, and leaves lent memory as it was.
 mod common;
 
-use common::{bytes, deck_w, Deck, AXIOMS, CLASSES, CONCEPTS, LISTS, ROLES};
+use common::{bytes, deck_w, Deck, AXIOMS, CLASSES, CONCEPTS, INJECTED, LISTS, ROLES};
 use style_deck::{
     check_axiom, check_deck, eval_concept, run, run_in, Bounds, ConceptId, Edge, Element, Lent,
-    Phase, Refusal, RoleId, Structure, Summary, REPORT_BYTES, STACK_BYTES,
+    Phase, Refusal, RoleId, Structure, Summary, WordIndex, REPORT_BYTES, STACK_BYTES,
 };
 
 const BOUNDS: Bounds = Bounds {
@@ -40,13 +40,64 @@ fn decks() {
     assert_deck_refused(&with_trailer(0, 2), Refusal::UnknownEdition);
     assert_deck_refused(&with_trailer(3, 4_097), Refusal::CountOverLimit);
     assert_deck_refused(&with_trailer(4, 1), Refusal::BadLayout);
-    let tag = deck_w().with(AXIOMS, &[26, 0, 0, 0]);
-    assert_deck_refused(&tag.bytes(), Refusal::BadField);
     let mut row = deck_w();
     row.parts[LISTS][1..3].rotate_left(1);
     assert_deck_refused(&row.bytes(), Refusal::BadOrder);
     let own = deck_w().with(CONCEPTS, &[5, 3, 0, 0]);
     assert_deck_refused(&own.bytes(), Refusal::ForwardOperand);
+}
+
+#[test]
+fn faults_in_deck_w() {
+    let faults = [
+        ([26, 0, 0, 0], Refusal::UnknownTag(WordIndex(30))),
+        ([23, 2, 1, 0], Refusal::OutOfRange(WordIndex(31))),
+        ([23, 1, 1, 0], Refusal::FilledField(WordIndex(32))),
+    ];
+    for (axiom, refusal) in faults {
+        assert_deck_refused(&deck_w().with(AXIOMS, &axiom).bytes(), refusal);
+    }
+}
+
+/// The small decks of docs/FORMAT.md: records, each with its part, and M = 0.
+#[test]
+fn small_decks() {
+    type Records<'a> = &'a [(usize, &'a [u32])];
+    let assert_refused = |records: Records<'_>, refusal: Refusal| {
+        let with = |deck: Deck, record: &(usize, &[u32])| deck.with(record.0, record.1);
+        let deck = records.iter().fold(Deck::default(), with);
+        assert_deck_refused(&deck.bytes(), refusal);
+    };
+    let role: &[u32] = &[0, 1, 1, 0];
+    let class: &[u32] = &[0, 0, 1];
+
+    let flag: Records = &[(CLASSES, &[2, 9, 9])];
+    assert_refused(flag, Refusal::UnknownTag(WordIndex(0)));
+    let not: Records = &[(CONCEPTS, &[5, 0, 1, 0])];
+    assert_refused(not, Refusal::FilledField(WordIndex(2)));
+    let earlier: Records = &[(CONCEPTS, &[5, 0, 0, 0]), (CONCEPTS, &[12, 0, 0, 0])];
+    assert_refused(earlier, Refusal::ForwardOperand);
+
+    let chain: Records = &[
+        (ROLES, role),
+        (AXIOMS, &[5, 1, 1, 2]),
+        (LISTS, &[0]),
+        (LISTS, &[2]),
+    ];
+    assert_refused(chain, Refusal::OutOfRange(WordIndex(9)));
+    let empty: Records = &[(ROLES, &[0, 1, 9, 0]), (LISTS, &[0])];
+    assert_refused(empty, Refusal::OutOfRange(WordIndex(2)));
+    let long: Records = &[(CLASSES, &[0, 0, 2]), (LISTS, &[7])];
+    assert_refused(long, Refusal::OutOfRange(WordIndex(1)));
+    let shared: Records = &[(CLASSES, class), (CLASSES, class), (LISTS, &[2])];
+    assert_refused(shared, Refusal::OutOfRange(WordIndex(6)));
+    let unreal: Records = &[
+        (CLASSES, class),
+        (ROLES, role),
+        (INJECTED, &[0, 0, 0]),
+        (LISTS, &[0]),
+    ];
+    assert_refused(unreal, Refusal::OutOfRange(WordIndex(9)));
 }
 
 /// Buffers of these lengths, marked, lent to a run of deck W; and whether they are as they were.
@@ -169,10 +220,34 @@ fn numbers_of_the_header() {
 
 #[test]
 fn numbers_and_words() {
-    let numbers: Vec<u32> = Refusal::ALL.iter().map(|r| r.number()).collect();
-    assert_eq!(numbers, (1..=11).collect::<Vec<u32>>());
+    let alone = [
+        (1, Refusal::TooShort),
+        (2, Refusal::UnknownEdition),
+        (3, Refusal::CountOverLimit),
+        (4, Refusal::BadLayout),
+        (6, Refusal::BadOrder),
+        (7, Refusal::ForwardOperand),
+        (8, Refusal::BadBounds),
+        (9, Refusal::ShortBuffer),
+        (10, Refusal::ForeignStructure),
+        (11, Refusal::AbsentIndex),
+    ];
+    for (number, refusal) in alone {
+        assert_eq!((refusal.number(), refusal.word()), (number, None));
+    }
+    let at = WordIndex(7);
+    let with_word = [
+        (12, Refusal::UnknownTag(at)),
+        (13, Refusal::OutOfRange(at)),
+        (14, Refusal::FilledField(at)),
+    ];
+    for (number, refusal) in with_word {
+        assert_eq!((refusal.number(), refusal.word()), (number, Some(at)));
+    }
     let text = Refusal::ShortBuffer.to_string();
     assert_eq!(text, "refused 9: label, edge or verdict buffer below need");
+    let text = Refusal::FilledField(at).to_string();
+    assert_eq!(text, "refused 14: unused field filled at word 7");
 }
 
 /// 16,383 Somes or Ands, each over the one before: a test's thread has not stack enough for that, the wrapper's has.

@@ -1,15 +1,21 @@
 -- Answers as words: what a call returns and writes, and what follows once it returned 0. Assumes nothing.
 use Prim.Native.Nat.{ℕ, _<_, _≤_}
 use mathlib.Core.Bool.{true}
-use mathlib.Core.Path.{_≡_, refl, ap, _∙_}
+use mathlib.Core.Path.{_≡_, refl, sym, ap, _∙_}
+use mathlib.Core.Logic.{⊎-elim}
 use mathlib.Core.List.{List, [], _∷_}
 use native.Mathlib.Omega.{arith}
 use borrow.Author.Tests.{lt-ltb, le-ltb}
 use lib.ListN.{length, getD, take}
 use lib.Seq.{sets}
+use Rattle.deck.specs.declared.DeckAnswer.{DeckAnswer}
+use Rattle.deck.specs.declared.DeckAnswer.the-variants.{Accepted, Refused}
 use Rattle.deck.specs.declared.refusal.Refusal.{Refusal}
-use Rattle.deck.specs.declared.refusal.Refusal.the-variants.{TooShort, UnknownEdition, CountOverLimit, BadLayout, BadField, BadOrder, ForwardOperand, BadBounds, ShortBuffer, ForeignStructure, AbsentIndex}
-use Rattle.deck.specs.Refusal.{numberOf}
+use Rattle.deck.specs.declared.refusal.Refusal.the-variants.{TooShort, UnknownEdition, CountOverLimit, BadLayout, BadOrder, ForwardOperand, BadBounds, ShortBuffer, ForeignStructure, AbsentIndex, UnknownTag, OutOfRange, FilledField}
+use Rattle.deck.specs.Refusal.{numberOf, wordOf, noWord}
+use Rattle.deck.specs.Records.{deckAnswer}
+use Rattle.deck.proofs.CaseLaws.{lt-or-le}
+use Rattle.deck.proofs.NamedLaws.{named, unnamed}
 use Rattle.deck.specs.Deck.{Deck, axiomAt}
 use Rattle.eval.specs.declared.shape.Shape.{Shape}
 use Rattle.eval.specs.declared.judgement.Judgement.{Judgement}
@@ -34,9 +40,9 @@ use Rattle.model.specs.Run.{Ran, ran, shapeIn}
 use Rattle.model.specs.Trust.{Trusted}
 use Rattle.model.proofs.RowLaws.{put-take}
 use Rattle.model.proofs.JudgingLaws.{put-sets, four-words}
-use Rattle.capi.specs.Words.{Told, told, refused, given, judgementWords, judgementTold, verdictTold, summaryWords, summaryTold}
+use Rattle.capi.specs.Words.{Told, told, refused, given, deckWord, judgementWords, judgementTold, verdictTold, summaryWords, summaryTold}
 use Rattle.capi.specs.Calls.{evalConcept, checkAxiom, called, calledFor, run}
-use Rattle.capi.specs.Promises.{Judged, Checked, Relied}
+use Rattle.capi.specs.Promises.{FaultNamed, Judged, Checked, Relied}
 
 -- ---- four words
 abbrev pub four : List ℕ → List ℕ
@@ -72,19 +78,31 @@ above-zero TooShort = omega arith
 above-zero UnknownEdition = omega arith
 above-zero CountOverLimit = omega arith
 above-zero BadLayout = omega arith
-above-zero BadField = omega arith
 above-zero BadOrder = omega arith
 above-zero ForwardOperand = omega arith
 above-zero BadBounds = omega arith
 above-zero ShortBuffer = omega arith
 above-zero ForeignStructure = omega arith
 above-zero AbsentIndex = omega arith
+above-zero (UnknownTag w) = omega arith
+above-zero (OutOfRange w) = omega arith
+above-zero (FilledField w) = omega arith
 
 pub never : {X : Type 0} (ρ : Refusal) {r : ℕ} → r ≡ numberOf ρ → r ≡ 0 → X
 never ρ h z = absurd (omega (arith, above-zero ρ, h, z))
 
 refused-never : {X : Type 0} (ρ : Refusal) {answer answer′ : List ℕ} {r : ℕ} → told r answer′ ≡ refused ρ answer → r ≡ 0 → X
 refused-never ρ h z = never ρ (ap (λ (t : Told). t .number) h) z
+
+-- ---- a word below `noWord` is the word of a fault
+has-word : (ρ : Refusal) → wordOf ρ < noWord → 12 ≤ numberOf ρ
+has-word ρ h = ⊎-elim (λ (l : numberOf ρ < 12). absurd (omega (arith, h, unnamed ρ l))) (λ (l : 12 ≤ numberOf ρ). l) (lt-or-le (numberOf ρ) 12)
+
+pub fault-named : (s : List ℕ) {r : ℕ} (a : DeckAnswer) → deckAnswer s ≡ a → r ≡ deckWord a → r < noWord → FaultNamed s r
+fault-named s Accepted is h l = absurd (omega (arith, h, l))
+fault-named s (Refused ρ) is h l =
+    let pied = has-word ρ (rw h at l) in
+    record { refusal = ρ; answered = is; pied = pied; word = sym h; named = named s ρ is pied }
 
 -- ---- judging
 module _ (s labels : List ℕ) (rows : List (List ℕ)) (shape : Shape) (answer : List ℕ) {r : ℕ} where

@@ -11,14 +11,18 @@ use Rattle.model.specs.declared.bounds.Bounds.{Bounds}
 use Rattle.model.specs.declared.run.RunAnswer.{RunAnswer}
 use Rattle.model.specs.Run as model
 use Rattle.model.specs.Run.{Ran, ran}
-use Rattle.capi.specs.Words.{Told, refused, isShort, deckNumber, judgementTold, verdictTold, summaryTold}
+use Rattle.capi.specs.Words.{Told, refused, isShort, deckNumber, deckWord, judgementTold, verdictTold, summaryTold}
 
 abbrev pub unlessShort : List ℕ → Told → Told
 unlessShort answer t = cond (isShort answer) (refused ShortBuffer answer) t
 
--- "1 to 4; then records in part order, each tested for 5, 6, 7"; 0 if none of them is given
+-- "1 to 4; then records in part order, each tested for" 12, 13, 14, then 6, 7; 0 if none of them is given
 unfoldable pub checkDeck : List ℕ → ℕ
 checkDeck s = deckNumber (deckAnswer s)
+
+-- "the word at which the first fault lies, counted from word 0 of the deck"
+unfoldable pub faultWord : List ℕ → ℕ
+faultWord s = deckWord (deckAnswer s)
 
 -- "judging one concept .. over a lent structure"
 unfoldable pub evalConcept : List ℕ → List ℕ → List (List ℕ) → Shape → ℕ → ℕ → List ℕ → Told

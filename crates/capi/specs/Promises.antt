@@ -1,9 +1,14 @@
--- What a caller may rely on once 0 was returned, read off the first four words of the answer.
-use Prim.Native.Nat.{ℕ}
+-- What a caller may rely on: once 0 was returned, read off the first four words of the answer; once a word was returned, of the deck.
+use Prim.Native.Nat.{ℕ, _≤_}
 use mathlib.Core.Bool.{true}
 use mathlib.Core.Path.{_≡_}
 use mathlib.Core.List.{List}
 use lib.ListN.{take}
+use Rattle.deck.specs.declared.DeckAnswer.the-variants.{Refused}
+use Rattle.deck.specs.declared.refusal.Refusal.{Refusal}
+use Rattle.deck.specs.Refusal.{numberOf, wordOf}
+use Rattle.deck.specs.Records.{deckAnswer}
+use Rattle.deck.specs.Named.{Named}
 use Rattle.deck.specs.Deck.{Deck, axiomAt}
 use Rattle.eval.specs.declared.judgement.Judgement.{Judgement}
 use Rattle.eval.specs.declared.verdict.Verdict.{Verdict}
@@ -18,6 +23,14 @@ use Rattle.model.specs.declared.tally.Tally.{Tally}
 use Rattle.model.specs.Run.{shapeIn}
 use Rattle.model.specs.Trust.{Trusted}
 use Rattle.capi.specs.Words.{judgementWords, summaryWords}
+
+-- the deck is refused with 12, 13 or 14, and what stands at word w is that fault
+pub record FaultNamed (s : List ℕ) (w : ℕ) : Type 0 where
+  pub refusal : Refusal
+  pub answered : deckAnswer s ≡ Refused refusal
+  pub pied : 12 ≤ numberOf refusal
+  pub word : wordOf refusal ≡ w
+  pub named : Named s refusal
 
 -- true and false are so under every choice; a plain concept is judged true or false, as it is
 pub record Judged (D : Deck) (S : Structure) (c e : ℕ) (answer : List ℕ) : Type 0 where

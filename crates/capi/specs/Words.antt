@@ -1,4 +1,4 @@
--- Every answer as a number and four words: what a program in C or Rust is told.
+-- Every answer as a number and four words, and a fault's word: what a program in C or Rust is told.
 use Prim.Native.Nat.{ℕ}
 use mathlib.Core.Bool.{Bool}
 use mathlib.Core.List.{List, [], _∷_}
@@ -7,7 +7,7 @@ use lib.Dec.{ltb}
 use Rattle.deck.specs.declared.DeckAnswer.{DeckAnswer}
 use Rattle.deck.specs.declared.DeckAnswer.the-variants.{Accepted, Refused}
 use Rattle.deck.specs.declared.refusal.Refusal.{Refusal}
-use Rattle.deck.specs.Refusal.{numberOf}
+use Rattle.deck.specs.Refusal.{numberOf, wordOf, noWord}
 use Rattle.eval.specs.declared.judgement.Judgement.{Judgement}
 use Rattle.eval.specs.declared.judgement.Judgement.the-variants.{False, True, Unresolved}
 use Rattle.eval.specs.declared.entry.ConceptAnswer.{ConceptAnswer}
@@ -43,6 +43,11 @@ isShort answer = ltb (length answer) 4
 abbrev pub deckNumber : DeckAnswer → ℕ
 deckNumber Accepted = 0
 deckNumber (Refused r) = numberOf r
+
+-- the word of refusal 12, 13 or 14; no word for every other answer
+abbrev pub deckWord : DeckAnswer → ℕ
+deckWord Accepted = noWord
+deckWord (Refused r) = wordOf r
 
 -- ---- a judgement: 0 false, 1 true, 2 unresolved and then the tag: "unresolved, named by tag"
 abbrev pub judgementWords : Judgement → List ℕ

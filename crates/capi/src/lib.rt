@@ -1,17 +1,20 @@
 // The verifier's entry points for a program in C or Rust, on numbers and slices: a slice passes as a pointer and a
 // length. include/style_deck.h says to a caller what each argument is. Each function returns 0 or the number of a
-// refusal, and what else it answers goes into four words that the caller lends; `style_deck_report` returns a length.
+// refusal, and what else it answers goes into four words that the caller lends; `style_deck_fault_word` returns a word,
+// `style_deck_report` a length.
 mod words;
 
 ghost use mathlib.Core.Path.{_≡_};
+ghost use Prim.Native.Nat.{_<_};
 ghost use lib.ListN.{take};
+ghost use Rattle.deck.specs.Refusal.{noWord};
 ghost use Rattle.deck.specs.Content.{deckOf};
 ghost use Rattle.eval.specs.Entry.{shapeOf};
 ghost use Rattle.eval.specs.Lent.{structureOf};
 ghost use Rattle.capi.specs.Words.{told};
 ghost use Rattle.capi.specs.Calls as spec;
-ghost use Rattle.capi.specs.Calls.{checkDeck, evalConcept, checkAxiom, called, boundsOf};
-ghost use Rattle.capi.specs.Promises.{Judged, Checked, Relied};
+ghost use Rattle.capi.specs.Calls.{checkDeck, faultWord, evalConcept, checkAxiom, called, boundsOf};
+ghost use Rattle.capi.specs.Promises.{FaultNamed, Judged, Checked, Relied};
 ghost use Rattle.model.specs.declared.outcome.Outcome.{Outcome};
 ghost use Rattle.report.specs.Lines.{outcomeWord};
 ghost use Rattle.report.specs.Text.{reported, Confirms};
@@ -27,6 +30,7 @@ use model::bounds::Bounds;
 use model::run::run;
 use report::report;
 use words::deck_number;
+use words::deck_word;
 use words::tell_judgement;
 use words::tell_summary;
 use words::tell_verdict;
@@ -37,6 +41,15 @@ pub extern "C" fn style_deck_check(deck: &[u8]) -> u32
     ensures { λ r. ⌜ r ≡ checkDeck (now (deck .entry)) ⌝ }
 {
     deck_number(check_deck(deck))
+}
+
+// The word of refusal 12, 13 or 14, counted from word 0 of the deck; 4294967295 where the deck has no such fault.
+#[no_mangle]
+pub extern "C" fn style_deck_fault_word(deck: &[u8]) -> u32
+    ensures is { λ r. ⌜ r ≡ faultWord (now (deck .entry)) ⌝ }
+    ensures named { λ r. ⌜ (r < noWord → FaultNamed (now (deck .entry)) r) ⌝ }
+{
+    deck_word(check_deck(deck))
 }
 
 // Is the element in the concept, in the structure of the first `elements` labels and the first `edge_count` edges?

@@ -3,9 +3,11 @@ ghost use mathlib.Core.Path.{_≡_};
 ghost use mathlib.Core.List.{[], _∷_};
 ghost use Prim.Native.Nat.{_≤_};
 ghost use lib.ListN.{length};
-ghost use Rattle.capi.specs.Words.{told, given, deckNumber, judgementWords, judgementTold, verdictTold, outcomeNumber, summaryTold};
+ghost use Rattle.capi.specs.Words.{told, given, deckNumber, deckWord, judgementWords, judgementTold, verdictTold, outcomeNumber, summaryTold};
 use deck::DeckAnswer;
+use deck::refusal::NO_WORD;
 use deck::refusal::refusal_number;
+use deck::refusal::refusal_word;
 use eval::entry::AxiomAnswer;
 use eval::entry::ConceptAnswer;
 use eval::judgement::Judgement;
@@ -19,6 +21,15 @@ pub fn deck_number(answer: DeckAnswer) -> u32
     match answer {
         DeckAnswer::Accepted => 0,
         DeckAnswer::Refused(refusal) => refusal_number(refusal),
+    }
+}
+
+pub fn deck_word(answer: DeckAnswer) -> u32
+    ensures { λ r. ⌜ r ≡ deckWord answer ⌝ }
+{
+    match answer {
+        DeckAnswer::Accepted => NO_WORD,
+        DeckAnswer::Refused(refusal) => refusal_word(refusal),
     }
 }
 

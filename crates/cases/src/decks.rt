@@ -1,11 +1,15 @@
 // A deck with a name. It is: the name's length and the deck's length in bytes, the number of runs, the name padded to whole
 // words, the runs. A run is a count, a width, and, for width 0, `count` words of the deck as they stand; for a width of 1 to
-// 4, that many steps, where word i of the run's `count` words is the deck's word `width` words before it plus step i mod width.
-// The deck is what the runs made, cut to its length. tests/make_decks.py writes the form.
+// 4, that many steps, where word i of the run's `count` words is the deck's word `width` words before it plus step i mod width;
+// for width 5, nothing: `count` words stay as the decks before left them. The deck is what the runs made, cut to its length.
+// tests/make_decks.py writes the form.
 use crate::words::MOST;
 use crate::words::put_word;
 use crate::words::word_or_0;
 ghost use Prim.Native.Nat.{_<_, _≤_};
+
+// The width of a run that keeps what stands.
+const KEPT: usize = 5;
 
 // Where reading and making have got to, in words.
 struct Place {
@@ -68,7 +72,16 @@ fn run(data: &[u8], room: &mut [u8], place: Place) -> Step {
     }
     let count = word_or_0(data, read) as usize;
     let width = word_or_0(data, read + 1) as usize;
-    if count > MOST - made || width > 4 || width > made {
+    if count > MOST - made {
+        return Step::Stuck;
+    }
+    if width == KEPT {
+        return Step::Made(Place {
+            read: read + 2,
+            made: made + count,
+        });
+    }
+    if width > 4 || width > made {
         return Step::Stuck;
     }
     if width == 0 {

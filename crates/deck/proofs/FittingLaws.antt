@@ -16,13 +16,14 @@ use Rattle.deck.specs.Answer.{trailerAnswer}
 use Rattle.deck.specs.Trailer.{partCount}
 use Rattle.deck.specs.Parts.{partWord}
 use Rattle.deck.specs.Rows.{rowHas}
-use Rattle.deck.specs.Records.{deckAnswer, partAnswer, recordAnswer, classAnswer, roleAnswer, injectedAnswer, injectedOrder, conceptForm, conceptAnswer, axiomForm, axiomAnswer, factAnswer}
+use Rattle.deck.specs.Records.{deckAnswer, partAnswer, recordAnswer, classAnswer, roleShape, roleAnswer, injectedAnswer, injectedOrder, conceptForm, conceptAnswer, axiomForm, axiomAnswer, factAnswer}
 use Rattle.deck.specs.Deck.{has}
 use Rattle.deck.specs.Content.{IsAccepted, injectedIn}
 use Rattle.deck.specs.Sound.{Rises, Before}
 use Rattle.deck.specs.Reads.{listOf, spanAt, ListFits, FormFits}
 use Rattle.deck.proofs.AnswerLaws.{first-all}
 use Rattle.deck.proofs.CaseLaws.{Cases, case-at}
+use Rattle.deck.proofs.FaultLaws.{no-fault}
 use Rattle.deck.proofs.TableLaws.{list-has}
 use Rattle.deck.proofs.FormLaws.{fits-list, fits-form, form-more, rises-row}
 
@@ -57,7 +58,7 @@ module _ (s : List ℕ) (F : Fitting s) where
       let start = partWord s 0 k 1 in
       let count = partWord s 0 k 2 in
       rw (
-        fits-form s 0 (FieldList Flag Class) (partWord s 0 k 0) start count (F .class-form k l),
+        no-fault s k 0 (omega arith) (fits-form s 0 (FieldList Flag Class) (partWord s 0 k 0) start count (F .class-form k l)),
         rises-row s start count (F .class-rises k l),
         or-from (eqb (partWord s 0 k 0) 1) (rowHas s start count k) (λ e. sym (list-has s start count k) ∙ F .class-own k l e),
       )
@@ -67,9 +68,10 @@ module _ (s : List ℕ) (F : Fitting s) where
   role-accepted k l =
       let a = F .sub-roles k l in
       let b = F .range k l in
+      let shape : roleShape s k ≡ true
+      = rw (fits-list s (partWord s 1 k 0) (partWord s 1 k 1) (partCount s 1) (a .fits)) (fits-list s (partWord s 1 k 2) (partWord s 1 k 3) (partCount s 0) (b .fits)) in
       rw (
-        fits-list s (partWord s 1 k 0) (partWord s 1 k 1) (partCount s 1) (a .fits),
-        fits-list s (partWord s 1 k 2) (partWord s 1 k 3) (partCount s 0) (b .fits),
+        no-fault s k 1 (omega arith) shape,
         rises-row s (partWord s 1 k 0) (partWord s 1 k 1) (a .rises),
         rises-row s (partWord s 1 k 2) (partWord s 1 k 3) (b .rises),
         sym (list-has s (partWord s 1 k 0) (partWord s 1 k 1) k) ∙ F .role-own k l,
@@ -98,7 +100,7 @@ module _ (s : List ℕ) (F : Fitting s) where
   unfolding injectedAnswer
   injected-accepted k l =
       rw (
-        fits-form s 0 (Fields Class Role RealClass) (partWord s 2 k 0) (partWord s 2 k 1) (partWord s 2 k 2) (F .injected-form k l),
+        no-fault s k 2 (omega arith) (fits-form s 0 (Fields Class Role RealClass) (partWord s 2 k 0) (partWord s 2 k 1) (partWord s 2 k 2) (F .injected-form k l)),
         injected-order k l,
       )
 
@@ -107,15 +109,17 @@ module _ (s : List ℕ) (F : Fitting s) where
   concept-accepted k l =
       let form = conceptForm (partWord s 3 k 0) in
       let below = fits-form s k form (partWord s 3 k 1) (partWord s 3 k 2) (partWord s 3 k 3) (F .concept-form k l) in
-      rw (form-more s k (partCount s 3) (omega arith) form (partWord s 3 k 1) (partWord s 3 k 2) (partWord s 3 k 3) below, below)
+      rw (no-fault s k 3 (omega arith) (form-more s k (partCount s 3) (omega arith) form (partWord s 3 k 1) (partWord s 3 k 2) (partWord s 3 k 3) below), below)
 
   axiom-accepted : (k : ℕ) → k < partCount s 4 → axiomAnswer s k ≡ Accepted
   unfolding axiomAnswer
-  axiom-accepted k l = rw (fits-form s (partCount s 3) (axiomForm (partWord s 4 k 0)) (partWord s 4 k 1) (partWord s 4 k 2) (partWord s 4 k 3) (F .axiom-form k l))
+  axiom-accepted k l =
+      no-fault s k 4 (omega arith) (fits-form s (partCount s 3) (axiomForm (partWord s 4 k 0)) (partWord s 4 k 1) (partWord s 4 k 2) (partWord s 4 k 3) (F .axiom-form k l))
 
   fact-accepted : (k : ℕ) → k < partCount s 5 → factAnswer s k ≡ Accepted
   unfolding factAnswer
-  fact-accepted k l = rw (fits-form s 0 (Fields Class Role Class) (partWord s 5 k 0) (partWord s 5 k 1) (partWord s 5 k 2) (F .fact-form k l))
+  fact-accepted k l =
+      no-fault s k 5 (omega arith) (fits-form s 0 (Fields Class Role Class) (partWord s 5 k 0) (partWord s 5 k 1) (partWord s 5 k 2) (F .fact-form k l))
 
   PartAt : ℕ → Type 0
   PartAt p = (k : ℕ) → k < partCount s p → recordAnswer s p k ≡ Accepted

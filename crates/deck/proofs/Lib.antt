@@ -9,10 +9,13 @@ pub mod CaseLaws
 pub mod AcceptedLaws
 pub mod DeckLaws
 pub mod FormLaws
+pub mod FaultLaws
 pub mod TagLaws
 pub mod SoundLaws
 pub mod SearchLaws
 pub mod SameLaws
+pub mod PieceLaws
+pub mod NamedLaws
 pub mod SameAnswerLaws
 pub mod ReadLaws
 pub mod InjectedLaws

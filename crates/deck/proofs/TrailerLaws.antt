@@ -83,7 +83,7 @@ module _ (s : List ℕ) (h : Framed s) where
   pub count-within : (p : ℕ) → p < 7 → partCount s p ≤ limitOf p
   count-within p l = leb-true (partCount s p) (limitOf p) (all-at (countFits s) 7 (frame s h .counts) p l)
 
-  starts-at : (p : ℕ) → p < 7 → partStart s p ≡ wordsBefore s p
+  pub starts-at : (p : ℕ) → p < 7 → partStart s p ≡ wordsBefore s p
   starts-at p l = eqb-true (partStart s p) (wordsBefore s p) (all-at (startFits s) 7 (and-left (startsFit s) _ (frame s h .layout)) p l)
 
   rest1 : eqb (bodyCount s) (wordsBefore s 7) && (eqb (bodyCount s) (trailerAt s) && leb (realOf s) (partCount s 0)) ≡ true
@@ -98,6 +98,22 @@ module _ (s : List ℕ) (h : Framed s) where
         arith,
         eqb-true (bodyCount s) (wordsBefore s 7) (and-left (eqb (bodyCount s) (wordsBefore s 7)) _ rest1),
         eqb-true (bodyCount s) (trailerAt s) (and-left (eqb (bodyCount s) (trailerAt s)) _ rest2),
+      )
+
+  -- the limits bound a deck's words
+  pub body-small : trailerAt s ≤ 471040
+  unfolding wordsBefore
+  body-small =
+      omega (
+        arith,
+        ends-at,
+        count-within 0 (omega arith),
+        count-within 1 (omega arith),
+        count-within 2 (omega arith),
+        count-within 3 (omega arith),
+        count-within 4 (omega arith),
+        count-within 5 (omega arith),
+        count-within 6 (omega arith),
       )
 
   pub real-within : realOf s ≤ partCount s 0

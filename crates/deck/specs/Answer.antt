@@ -6,7 +6,7 @@ use mathlib.Core.Bool.{Bool, true, false, _&&_}
 use lib.ListN.{length}
 use lib.Dec.{eqb, leb}
 use Rattle.deck.specs.declared.refusal.Refusal.{Refusal}
-use Rattle.deck.specs.declared.refusal.Refusal.the-variants.{TooShort, UnknownEdition, CountOverLimit, BadLayout, BadField, BadOrder, ForwardOperand}
+use Rattle.deck.specs.declared.refusal.Refusal.the-variants.{TooShort, UnknownEdition, CountOverLimit, BadLayout}
 use Rattle.deck.specs.declared.DeckAnswer.{DeckAnswer}
 use Rattle.deck.specs.declared.DeckAnswer.the-variants.{Accepted, Refused}
 use Rattle.deck.specs.Trailer.{edition, countsFit, layoutFits}

@@ -22,7 +22,7 @@ pub record Counts : Type 0 where
 abbrev pub countsOf : List ℕ → Counts
 countsOf s = record { classes = partCount s 0; real = realOf s; roles = partCount s 1 }
 
--- 5 is given for "number or list out of range, unused field filled": what a word of a kind is below, where concepts are below c
+-- "12 tag or flag, 13 range, 14 filled field": what a word of a kind is below, where concepts are below c
 abbrev pub boundOf : Counts → ℕ → Kind → ℕ
 boundOf n c Zero = 1
 boundOf n c Flag = 2

@@ -7,7 +7,9 @@ pub mod Answer
 pub mod Parts
 pub mod Rows
 pub mod Forms
+pub mod Faults
 pub mod Records
+pub mod Named
 pub mod Deck
 pub mod Content
 pub mod Sound

@@ -24,7 +24,7 @@ wordIs s start x i = eqb (listWord s (start + i)) x
 abbrev pub rowBelow : List ℕ → ℕ → ℕ → ℕ → Bool
 rowBelow s start count n = allBelow (wordBelow s start n) count
 
--- 5: the row lies within lists, and its words are below n
+-- 13: the row lies within lists, and its words are below n
 abbrev pub rowShape : List ℕ → ℕ → ℕ → ℕ → Bool
 rowShape s start count n = rowFits s start count && rowBelow s start count n
 

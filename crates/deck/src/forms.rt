@@ -3,7 +3,7 @@ ghost use mathlib.Core.Path.{_≡_};
 ghost use Prim.Native.Nat.{_<_};
 ghost use Rattle.deck.specs.Answer.{Framed};
 ghost use Rattle.deck.specs.Forms.{countsOf, boundOf, boundsOf, countsAt, AreBounds, placeOf, fits, fieldsFit, fieldListFits, wordsFit};
-ghost use Rattle.deck.specs.Records.{conceptForm, axiomForm};
+ghost use Rattle.deck.specs.Records.{classForm, injectedForm, factForm, conceptForm, axiomForm};
 use crate::parts;
 use crate::rows;
 
@@ -26,6 +26,24 @@ pub enum Form {
     ListField(Kind, Kind),
     FieldList(Kind, Kind),
     Unknown,
+}
+
+pub fn class_form() -> Form
+    ensures { λ r. ⌜ r ≡ classForm ⌝ }
+{
+    Form::FieldList(Kind::Flag, Kind::Class)
+}
+
+pub fn injected_form() -> Form
+    ensures { λ r. ⌜ r ≡ injectedForm ⌝ }
+{
+    Form::Fields(Kind::Class, Kind::Role, Kind::RealClass)
+}
+
+pub fn fact_form() -> Form
+    ensures { λ r. ⌜ r ≡ factForm ⌝ }
+{
+    Form::Fields(Kind::Class, Kind::Role, Kind::Class)
 }
 
 // The fields of a concept, by its tag.
@@ -118,7 +136,7 @@ fn place(kind: Kind) -> usize
 }
 
 // What a word of a kind is below, where concepts are below `concepts`.
-fn bound(bounds: &[usize; 8], concepts: usize, kind: Kind) -> usize
+pub fn bound(bounds: &[usize; 8], concepts: usize, kind: Kind) -> usize
     requires { ⌜ AreBounds (now bounds) ⌝ }
     ensures { λ r. ⌜ r ≡ boundOf (countsAt (now (bounds .entry))) concepts kind ⌝ }
 {
@@ -127,7 +145,7 @@ fn bound(bounds: &[usize; 8], concepts: usize, kind: Kind) -> usize
 }
 
 // Whether a word is of a kind.
-fn field_fits(bounds: &[usize; 8], concepts: usize, kind: Kind, w: u32) -> bool
+pub fn field_fits(bounds: &[usize; 8], concepts: usize, kind: Kind, w: u32) -> bool
     requires { ⌜ AreBounds (now bounds) ⌝ }
     ensures { λ r. ⌜ r ≡ fits (countsAt (now (bounds .entry))) concepts kind w ⌝ }
 {
@@ -179,7 +197,7 @@ pub fn field_list_fits(
 }
 
 // Whether three words are of a form.
-pub fn words_fit(
+fn words_fit(
     deck: &[u8],
     bounds: &[usize; 8],
     concepts: usize,

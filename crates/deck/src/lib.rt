@@ -3,6 +3,7 @@ pub mod axioms;
 pub mod classes;
 pub mod concepts;
 pub mod facts;
+mod faults;
 mod forms;
 pub mod injected;
 pub mod numbers;

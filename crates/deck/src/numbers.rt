@@ -13,6 +13,9 @@ pub struct ConceptId(pub u32);
 // An element of a structure.
 pub struct Element(pub u32);
 
+// A word of a deck, counted from word 0.
+pub struct WordIndex(pub u32);
+
 // Twice a role's number, plus 1 if inverse.
 pub struct RoleWord(pub u32);
 

@@ -1,22 +1,22 @@
-// The tests 5, 6 and 7 of a record of each part, and of all records in part order.
+// The tests 12, 13, 14, 6 and 7 of a record of each part, and of all records in part order.
 ghost use mathlib.Core.Path.{_≡_};
 ghost use mathlib.Core.Bool.{true, false};
 ghost use Prim.Native.Nat.{_<_};
 ghost use Rattle.deck.specs.Answer.{Framed, firstRefusal};
 ghost use Rattle.deck.specs.Trailer.{partCount};
-ghost use Rattle.deck.specs.Parts.{partWord};
-ghost use Rattle.deck.specs.Forms.{countsOf, boundsOf, formShape};
+ghost use Rattle.deck.specs.Forms.{countsOf, boundsOf};
 ghost use Rattle.deck.specs.Records.{classShape, classOrder, classAnswer, roleShape, roleOrder, roleAnswer};
-ghost use Rattle.deck.specs.Records.{injectedOrder, injectedAnswer, conceptForm, conceptAnswer, axiomForm, axiomAnswer, factAnswer};
+ghost use Rattle.deck.specs.Records.{injectedOrder, injectedAnswer, conceptShape, conceptAnswer, axiomAnswer, factAnswer};
 ghost use Rattle.deck.specs.Records.{recordAnswer, partAnswer};
 use crate::DeckAnswer;
+use crate::faults::or_else;
+use crate::faults::record_fault;
 use crate::forms::Kind;
 use crate::forms::axiom_form;
 use crate::forms::concept_form;
 use crate::forms::field_list_fits;
 use crate::forms::fields_fit;
 use crate::forms::form_fits;
-use crate::forms::words_fit;
 use crate::parts;
 use crate::refusal::Refusal;
 use crate::rows;
@@ -55,7 +55,7 @@ fn class_answer(deck: &[u8], bounds: &[usize; 8], k: usize) -> DeckAnswer
         parts::part_word(deck, 0, k, 1),
         parts::part_word(deck, 0, k, 2),
     ) {
-        return DeckAnswer::Refused(Refusal::BadField);
+        return record_fault(deck, bounds, 0, k);
     }
     if !class_order(deck, k) {
         return DeckAnswer::Refused(Refusal::BadOrder);
@@ -107,13 +107,14 @@ fn role_order(deck: &[u8], k: usize) -> bool
     rows::find(deck, start, count, k)
 }
 
-fn role_answer(deck: &[u8], k: usize) -> DeckAnswer
+fn role_answer(deck: &[u8], bounds: &[usize; 8], k: usize) -> DeckAnswer
     requires { ⌜ Framed (now deck) ⌝ }
+    requires { ⌜ now bounds ≡ boundsOf (countsOf (now deck)) ⌝ }
     requires { ⌜ k < partCount (now deck) 1 ⌝ }
     ensures { λ r. ⌜ r ≡ roleAnswer (now (deck .entry)) k ⌝ }
 {
     if !role_shape(deck, k) {
-        return DeckAnswer::Refused(Refusal::BadField);
+        return record_fault(deck, bounds, 1, k);
     }
     if !role_order(deck, k) {
         return DeckAnswer::Refused(Refusal::BadOrder);
@@ -157,7 +158,7 @@ fn injected_answer(deck: &[u8], bounds: &[usize; 8], k: usize) -> DeckAnswer
         parts::part_word(deck, 2, k, 1),
         parts::part_word(deck, 2, k, 2),
     ) {
-        return DeckAnswer::Refused(Refusal::BadField);
+        return record_fault(deck, bounds, 2, k);
     }
     if !injected_order(deck, k) {
         return DeckAnswer::Refused(Refusal::BadOrder);
@@ -170,23 +171,13 @@ fn concept_refusal(deck: &[u8], bounds: &[usize; 8], k: usize) -> DeckAnswer
     requires { ⌜ Framed (now deck) ⌝ }
     requires { ⌜ now bounds ≡ boundsOf (countsOf (now deck)) ⌝ }
     requires { ⌜ k < partCount (now deck) 3 ⌝ }
-    requires { ⌜ formShape (now deck) 3 k 1 k (conceptForm (partWord (now deck) 3 k 0)) ≡ false ⌝ }
+    requires { ⌜ conceptShape (now deck) k k ≡ false ⌝ }
     ensures { λ r. ⌜ r ≡ conceptAnswer (now (deck .entry)) k ⌝ }
 {
-    let form = concept_form(parts::part_word(deck, 3, k, 0));
-    if words_fit(
-        deck,
-        bounds,
-        parts::count(deck, 3),
-        form,
-        parts::part_word(deck, 3, k, 1),
-        parts::part_word(deck, 3, k, 2),
-        parts::part_word(deck, 3, k, 3),
-    ) {
-        DeckAnswer::Refused(Refusal::ForwardOperand)
-    } else {
-        DeckAnswer::Refused(Refusal::BadField)
-    }
+    or_else(
+        record_fault(deck, bounds, 3, k),
+        DeckAnswer::Refused(Refusal::ForwardOperand),
+    )
 }
 
 // Operands that are below the concept are below C too, so a good list is gone through once.
@@ -230,7 +221,7 @@ fn axiom_answer(deck: &[u8], bounds: &[usize; 8], k: usize) -> DeckAnswer
     ) {
         DeckAnswer::Accepted
     } else {
-        DeckAnswer::Refused(Refusal::BadField)
+        record_fault(deck, bounds, 4, k)
     }
 }
 
@@ -252,7 +243,7 @@ fn fact_answer(deck: &[u8], bounds: &[usize; 8], k: usize) -> DeckAnswer
     ) {
         DeckAnswer::Accepted
     } else {
-        DeckAnswer::Refused(Refusal::BadField)
+        record_fault(deck, bounds, 5, k)
     }
 }
 
@@ -265,7 +256,7 @@ fn record_answer(deck: &[u8], bounds: &[usize; 8], p: usize, k: usize) -> DeckAn
 {
     match p {
         0 => class_answer(deck, bounds, k),
-        1 => role_answer(deck, k),
+        1 => role_answer(deck, bounds, k),
         2 => injected_answer(deck, bounds, k),
         3 => concept_answer(deck, bounds, k),
         4 => axiom_answer(deck, bounds, k),

@@ -8,7 +8,8 @@ use Rattle.deck.specs.Below.{allBelow, anyBelow}
 use Rattle.deck.specs.Trailer.{wordsBefore}
 use Rattle.deck.specs.Answer.{firstRefusal, trailerAnswer}
 use Rattle.deck.specs.Parts.{partPlace, partWord}
-use Rattle.deck.specs.Records.{classAnswer, roleAnswer, injectedAnswer, conceptAnswer, axiomAnswer, factAnswer, recordAnswer, partAnswer, deckAnswer}
+use Rattle.deck.specs.Faults.{firstWith, wordFaults}
+use Rattle.deck.specs.Records.{recordFault, classAnswer, roleAnswer, injectedAnswer, conceptAnswer, axiomAnswer, factAnswer, recordAnswer, partAnswer, deckAnswer}
 use Rattle.deck.specs.Content.{IsAccepted, deckOf, table, listAt, classIn, roleIn, injectedIn, conceptIn, axiomIn, factIn, conceptOf, axiomOf, makeConcept, makeAxiom}
 use Rattle.eval.proofs.Specimens.{W}
 
@@ -44,5 +45,5 @@ unfolding deckOf table listAt classIn roleIn injectedIn conceptIn axiomIn factIn
 is-W = refl
 
 pub accepted : IsAccepted deckW
-unfolding deckAnswer trailerAnswer firstRefusal partAnswer recordAnswer classAnswer roleAnswer injectedAnswer conceptAnswer axiomAnswer factAnswer wordsBefore allBelow anyBelow partPlace partWord wordAt mathlib.Core.List.flatMap
+unfolding deckAnswer trailerAnswer firstRefusal partAnswer recordAnswer recordFault firstWith wordFaults classAnswer roleAnswer injectedAnswer conceptAnswer axiomAnswer factAnswer wordsBefore allBelow anyBelow partPlace partWord wordAt mathlib.Core.List.flatMap
 accepted = refl

@@ -1,28 +1,38 @@
 // Reads decks from standard input, checks each, and prints its name and its number: 0 if it is
-// accepted, else the refusal's. tests/make_decks.py writes the input, and what must be printed.
+// accepted, else the refusal's, and the refusal's word if it has one. tests/make_decks.py writes
+// the input, and what must be printed.
 //
 // The input is decks with names, one after the other (cases::decks). Input of any other form ends the
 // program.
 use cases::decks::Read;
 use cases::words::part;
 use deck::DeckAnswer;
+use deck::refusal::NO_WORD;
+use deck::refusal::Refusal;
+use deck::refusal::refusal_number;
+use deck::refusal::refusal_word;
 use libc::STDOUT_FILENO;
 ghost use mathlib.Core.Path.{_≡_};
 ghost use lib.ListN.{length};
 
-// 0 for an accepted deck, else the number of its refusal.
-fn number(answer: DeckAnswer) -> u32 {
-    match answer {
-        DeckAnswer::Accepted => 0,
-        DeckAnswer::Refused(refusal) => deck::refusal::refusal_number(refusal),
+fn print_number(number: u32) {
+    io::write_all(STDOUT_FILENO, b" ");
+    io::print_decimal(STDOUT_FILENO, number as u64);
+}
+
+fn print_refusal(refusal: Refusal) {
+    print_number(refusal_number(refusal));
+    let word = refusal_word(refusal);
+    if word != NO_WORD {
+        print_number(word);
     }
 }
 
-fn print_line(name: &[u8], number: u32) {
-    io::write_all(STDOUT_FILENO, name);
-    io::write_all(STDOUT_FILENO, b" ");
-    io::print_decimal(STDOUT_FILENO, number as u64);
-    io::write_all(STDOUT_FILENO, b"\n");
+fn print_answer(answer: DeckAnswer) {
+    match answer {
+        DeckAnswer::Accepted => print_number(0),
+        DeckAnswer::Refused(refusal) => print_refusal(refusal),
+    }
 }
 
 // Checks the deck at word `at` of the data. Answers the word after it, or 0 if it is malformed.
@@ -32,7 +42,9 @@ fn check_one(data: &[u8], at: usize, room: &mut [u8]) -> usize {
         return 0;
     };
     let answer = deck::check_deck(part(room, 0, case.length));
-    print_line(part(data, case.name, case.name_end), number(answer));
+    io::write_all(STDOUT_FILENO, part(data, case.name, case.name_end));
+    print_answer(answer);
+    io::write_all(STDOUT_FILENO, b"\n");
     case.next
 }
 

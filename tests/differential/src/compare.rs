@@ -3,6 +3,7 @@ use crate::answer::{Answer, Bounds, OUTCOMES};
 use crate::oracle::{Case, Given, hierarchy};
 use crate::ours::{self, Lent, Room, Structure, need};
 use crate::parts::Parts;
+use crate::reader::{NO_WORD, Refusal};
 use crate::rng::Rng;
 use crate::tally::Tally;
 use crate::{generate, large, reader, repeats};
@@ -22,7 +23,7 @@ pub fn same<T: PartialEq + std::fmt::Debug>(what: &str, ours: T, theirs: T) -> S
 pub fn deck(rng: &mut Rng, tally: &mut Tally) -> (Vec<u8>, Same) {
     let mut parts = building_deck(rng);
     repeats::add(rng, &mut parts);
-    if rng.chance(10) {
+    if rng.chance(15) {
         generate::misplace(rng, &mut parts);
     }
     let mut deck = parts.bytes();
@@ -30,7 +31,7 @@ pub fn deck(rng: &mut Rng, tally: &mut Tally) -> (Vec<u8>, Same) {
         generate::damage(rng, &mut deck);
     }
     let found = match reader::read(&deck) {
-        Err(number) => refused(rng, tally, &deck, number),
+        Err(refusal) => refused(rng, tally, &deck, refusal),
         Ok(parts) => accepted(rng, tally, &deck, &parts),
     };
     (deck, found)
@@ -47,10 +48,15 @@ pub fn building_deck(rng: &mut Rng) -> Parts {
     generate::deck(rng)
 }
 
-/// A refused deck: every entry gives its number, and leaves lent memory as it was.
-fn refused(rng: &mut Rng, tally: &mut Tally, deck: &[u8], number: u32) -> Same {
+/// A refused deck: every entry gives its number, and leaves lent memory as it was. One entry gives the word.
+fn refused(rng: &mut Rng, tally: &mut Tally, deck: &[u8], refusal: Refusal) -> Same {
+    let Refusal { number, word } = refusal;
     tally.add("refused", number, 1);
+    if word != NO_WORD {
+        tally.add("first fault", format!("{number} in {}", reader::part_of(deck, word)), 1);
+    }
     same("check", ours::check(deck), number)?;
+    same("word of the first fault", ours::fault_word(deck), word)?;
     let room = Room { labels: rng.below(90), edges: rng.below(90), log: rng.below(9), verdicts: rng.below(90) };
     let bounds = Bounds { elements: rng.word(90000), edges: rng.word(90), rounds: rng.word(9) };
     refused_run(deck, bounds, rng.word(7), room, number)?;
@@ -68,6 +74,7 @@ fn refused_run(deck: &[u8], bounds: Bounds, last_phase: u32, room: Room, number:
 fn accepted(rng: &mut Rng, tally: &mut Tally, deck: &[u8], parts: &Parts) -> Same {
     tally.add("decks", "accepted", 1);
     same("check", ours::check(deck), 0)?;
+    same("word of no fault", ours::fault_word(deck), NO_WORD)?;
     let case = Case::new(parts);
     count_deck(tally, parts);
     let (bounds, last_phase) = asked(rng, parts, &case);

@@ -214,10 +214,11 @@ fn axiom(rng: &mut Rng, parts: &mut Parts) {
 }
 
 /// A record that is out of place: an operand that is not below its concept, a row that does not rise, an injected record
-/// before the one it follows or with a q that is not real, an unused field filled.
+/// before the one it follows or with a q that is not real, an unused field filled, an unknown tag or flag, a list word or a
+/// fact out of range.
 pub fn misplace(rng: &mut Rng, parts: &mut Parts) {
     let (c, n) = (parts.concepts.len(), parts.classes.len());
-    match rng.below(5) {
+    match rng.below(9) {
         0 if c > 0 => {
             let k = rng.below(c);
             let operand = (k + rng.below(c - k)) as u32;
@@ -245,6 +246,20 @@ pub fn misplace(rng: &mut Rng, parts: &mut Parts) {
         4 if !parts.roles.is_empty() => {
             let i = rng.below(parts.roles.len());
             parts.roles[i][rng.below(4)] = rng.word(parts.lists.len() + 2);
+        }
+        5 if n > 0 => parts.classes[rng.below(n)][0] = rng.pick(&[2, 3, 256, u32::MAX]),
+        6 if c > 0 => parts.concepts[rng.below(c)][0] = rng.pick(&[12, 13, 26, u32::MAX]),
+        7 if !parts.axioms.is_empty() => {
+            let i = rng.below(parts.axioms.len());
+            parts.axioms[i][0] = rng.pick(&[26, 27, 281, u32::MAX]);
+        }
+        8 if !parts.facts.is_empty() && rng.chance(40) => {
+            let i = rng.below(parts.facts.len());
+            parts.facts[i][rng.below(3)] = rng.pick(&[n as u32, parts.roles.len() as u32, u32::MAX]);
+        }
+        8 if !parts.lists.is_empty() => {
+            let i = rng.below(parts.lists.len());
+            parts.lists[i] = rng.pick(&[n as u32, c as u32, 2 * parts.roles.len() as u32, u32::MAX]);
         }
         _ => {}
     }

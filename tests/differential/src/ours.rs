@@ -4,6 +4,7 @@ use crate::parts::Parts;
 
 unsafe extern "C" {
     fn style_deck_check(deck: *const u8, length: usize) -> u32;
+    fn style_deck_fault_word(deck: *const u8, length: usize) -> u32;
     fn style_deck_eval_concept(
         deck: *const u8,
         length: usize,
@@ -53,6 +54,11 @@ unsafe extern "C" {
 
 pub fn check(deck: &[u8]) -> u32 {
     unsafe { style_deck_check(deck.as_ptr(), deck.len()) }
+}
+
+/// The word at which the first fault of a deck refused with 12, 13 or 14 lies; else NO_WORD.
+pub fn fault_word(deck: &[u8]) -> u32 {
+    unsafe { style_deck_fault_word(deck.as_ptr(), deck.len()) }
 }
 
 /// How long the lent buffers are: words of labels, records of edges, words of the log and of verdicts.

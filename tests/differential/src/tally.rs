@@ -9,6 +9,10 @@ impl Tally {
         *self.0.entry((group, name.to_string())).or_default() += more;
     }
 
+    pub fn count(&self, group: &'static str, name: impl ToString) -> u64 {
+        self.0.get(&(group, name.to_string())).copied().unwrap_or(0)
+    }
+
     /// What was seen once or more.
     pub fn seen(&self) -> impl Iterator<Item = &(&'static str, String)> {
         self.0.keys()

@@ -12,6 +12,7 @@ pub struct Deck {
 
 pub const CLASSES: usize = 0;
 pub const ROLES: usize = 1;
+pub const INJECTED: usize = 2;
 pub const CONCEPTS: usize = 3;
 pub const AXIOMS: usize = 4;
 pub const FACTS: usize = 5;

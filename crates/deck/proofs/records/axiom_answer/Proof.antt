@@ -1,9 +1,11 @@
 use mathlib.Core.Path.{_≡_, sym, _∙_}
+use native.Mathlib.Omega.{arith}
 use denote.Ref.{now}
 use Rattle.deck.specs.Trailer.{partCount}
 use Rattle.deck.specs.Parts.{partWord}
 use Rattle.deck.specs.Forms.{countsOf, formShape}
 use Rattle.deck.proofs.FormLaws.{are-bounds}
+use Rattle.deck.proofs.FaultLaws.{no-fault}
 use Rattle.deck.specs.Records.{axiomForm, axiomAnswer}
 use borrow.Author.Needs.{needs}
 use Rattle.deck.proofs.records.axiom_answer.Statement.{statement}
@@ -13,6 +15,7 @@ use Rattle.deck.proofs.records.axiom_answer.Lts as lts
 use Rattle.deck.proofs.forms.axiom_form.Reads as axiom-form-reads
 use Rattle.deck.proofs.forms.form_fits.Reads as form-fits-reads
 use Rattle.deck.proofs.parts.count.Reads as count-reads
+use Rattle.deck.proofs.faults.record_fault.Reads as record-fault-reads
 use Rattle.deck.proofs.parts.part_word.Reads as part-word-reads
 
 part-word-requires : tie.Need-part-word-requires
@@ -47,13 +50,16 @@ shape c =
     rw (← form .before .part-word .ensures, ← form .axiom-form .ensures, ← p2 .before .count .ensures, ← p2 .part-word2 .ensures, ← p3 .part-word3 .ensures, ← p4 .part-word4 .ensures)
     (rw (at .pre .1 .0) at (c .form-fits .ensures))
 
+record-fault-requires : tie.Need-record-fault-requires
+record-fault-requires c κs = search needs
+
 returns : tie.Need-returns
 unfolding axiomAnswer
-returns c = simp (sym (shape (c .before)) ∙ c .if1 .taken)
+returns c = sym (no-fault _ _ 4 (omega arith) (sym (shape (c .before)) ∙ c .if1 .taken))
 
 returns-2 : tie.Need-returns-2
 unfolding axiomAnswer
-returns-2 c = simp (sym (shape (c .before)) ∙ c .if1 .left)
+returns-2 c = c .record-fault .ensures
 
 pub axiom-answer-spec : {M : Type 1} → statement M
 axiom-answer-spec =
@@ -66,5 +72,6 @@ axiom-answer-spec =
     part-word-requires-3
     part-word-requires-4
     form-fits-requires
+    record-fault-requires
     returns
     returns-2)

@@ -5,6 +5,7 @@ use Rattle.deck.specs.Trailer.{partCount}
 use Rattle.deck.specs.Parts.{partWord}
 use Rattle.deck.specs.Forms.{countsOf, formShape}
 use Rattle.deck.specs.Records.{conceptForm, conceptAnswer}
+use Rattle.deck.proofs.FaultLaws.{no-fault}
 use Rattle.deck.proofs.FormLaws.{form-more, are-bounds}
 use borrow.Author.Needs.{needs}
 use Rattle.deck.proofs.records.concept_answer.Statement.{statement}
@@ -56,7 +57,7 @@ returns c =
     let s = now (at .args .deck) in
     let k = at .args .k in
     let fits = sym (below (c .before)) ∙ c .if1 .taken in
-    simp (form-more s k (partCount s 3) (omega (arith, at .pre .1 .1)) (conceptForm (partWord s 3 k 0)) (partWord s 3 k 1) (partWord s 3 k 2) (partWord s 3 k 3) fits, fits)
+    simp (no-fault s k 3 (omega arith) (form-more s k (partCount s 3) (omega (arith, at .pre .1 .1)) (conceptForm (partWord s 3 k 0)) (partWord s 3 k 1) (partWord s 3 k 2) (partWord s 3 k 3) fits), fits)
 
 returns-2 : tie.Need-returns-2
 returns-2 c = search needs
