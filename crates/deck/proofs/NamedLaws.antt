@@ -1,5 +1,5 @@
 -- The word of a refusal 12, 13 or 14 lies in a record or in a list that the record names, and what stands there is the fault: `named`.
--- No other refusal has a word: `unnamed`.
+-- It is below `noWord`: `word-told`. No other refusal has a word: `unnamed`.
 -- Assumes nothing.
 use mathlib.Core.Path.{_≡_, refl, sym, subst, _∙_}
 use mathlib.Core.Logic.{_⊎_, ⊎-elim, inl, inr}
@@ -28,7 +28,7 @@ use Rattle.deck.specs.Faults.Piece.{Field, Items, NoForm}
 use Rattle.deck.specs.Records.{deckAnswer, partAnswer, recordAnswer, recordFault, recordPieces, classAnswer, classOrder, roleAnswer, roleOrder, injectedAnswer, injectedOrder, conceptAnswer, conceptShape, axiomAnswer, factAnswer}
 use Rattle.deck.specs.Named.{Leaves, Strays, Amiss, AtFault, Named}
 use Rattle.deck.proofs.CaseLaws.{Cases, case-at}
-use Rattle.deck.proofs.TrailerLaws.{framed-of, in-part}
+use Rattle.deck.proofs.TrailerLaws.{framed-of, in-part, body-small}
 use Rattle.deck.proofs.PieceLaws.{PieceAt, each-at, record-pieces}
 use Rattle.deck.proofs.FaultLaws.{first-append, walk}
 
@@ -214,6 +214,13 @@ named s r e high =
       at-fault = fault;
       within = piece-within s p k (framed-of 1 s (t .0)) (part .1) (place .1) q own r fault;
     }
+
+-- the word of 12, 13 or 14 is not taken for none
+pub word-told : (s : List ℕ) (r : Refusal) → deckAnswer s ≡ Refused r → 12 ≤ numberOf r → wordOf r < noWord
+unfolding deckAnswer
+word-told s r e high =
+    let t = after-low r high (trailerAnswer 1 s) (firstRefusal (partAnswer s) 6) (trailer-low 1 s) e in
+    omega (arith, named s r e high .within, body-small s (framed-of 1 s (t .0)))
 
 -- the other refusals have no word
 pub unnamed : (r : Refusal) → numberOf r < 12 → wordOf r ≡ noWord

@@ -23,7 +23,7 @@ use crate::parts;
 use crate::refusal::Refusal;
 
 // The first of two answers that refuses.
-pub fn or_else(a: DeckAnswer, b: DeckAnswer) -> DeckAnswer
+fn or_else(a: DeckAnswer, b: DeckAnswer) -> DeckAnswer
     ensures { λ r. ⌜ r ≡ orElse a b ⌝ }
 {
     if let DeckAnswer::Refused(_) = a {

@@ -197,7 +197,7 @@ pub fn field_list_fits(
 }
 
 // Whether three words are of a form.
-fn words_fit(
+pub fn words_fit(
     deck: &[u8],
     bounds: &[usize; 8],
     concepts: usize,

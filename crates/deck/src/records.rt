@@ -9,7 +9,6 @@ ghost use Rattle.deck.specs.Records.{classShape, classOrder, classAnswer
 ghost use Rattle.deck.specs.Records.{injectedOrder, injectedAnswer, conceptShape, conceptAnswer, axiomAnswer, factAnswer};
 ghost use Rattle.deck.specs.Records.{recordAnswer, partAnswer};
 use crate::DeckAnswer;
-use crate::faults::or_else;
 use crate::faults::record_fault;
 use crate::forms::Kind;
 use crate::forms::axiom_form;
@@ -17,6 +16,7 @@ use crate::forms::concept_form;
 use crate::forms::field_list_fits;
 use crate::forms::fields_fit;
 use crate::forms::form_fits;
+use crate::forms::words_fit;
 use crate::parts;
 use crate::refusal::Refusal;
 use crate::rows;
@@ -174,10 +174,20 @@ fn concept_refusal(deck: &[u8], bounds: &[usize; 8], k: usize) -> DeckAnswer
     requires { ⌜ conceptShape (now deck) k k ≡ false ⌝ }
     ensures { λ r. ⌜ r ≡ conceptAnswer (now (deck .entry)) k ⌝ }
 {
-    or_else(
-        record_fault(deck, bounds, 3, k),
-        DeckAnswer::Refused(Refusal::ForwardOperand),
-    )
+    let form = concept_form(parts::part_word(deck, 3, k, 0));
+    if words_fit(
+        deck,
+        bounds,
+        parts::count(deck, 3),
+        form,
+        parts::part_word(deck, 3, k, 1),
+        parts::part_word(deck, 3, k, 2),
+        parts::part_word(deck, 3, k, 3),
+    ) {
+        DeckAnswer::Refused(Refusal::ForwardOperand)
+    } else {
+        record_fault(deck, bounds, 3, k)
+    }
 }
 
 // Operands that are below the concept are below C too, so a good list is gone through once.
