@@ -15,7 +15,7 @@ use Rattle.deck.specs.declared.refusal.Refusal.the-variants.{TooShort, UnknownE
 use Rattle.deck.specs.Refusal.{numberOf, wordOf, noWord}
 use Rattle.deck.specs.Records.{deckAnswer}
 use Rattle.deck.proofs.CaseLaws.{lt-or-le}
-use Rattle.deck.proofs.NamedLaws.{named, unnamed}
+use Rattle.deck.proofs.NamedLaws.{named, word-told, unnamed}
 use Rattle.deck.specs.Deck.{Deck, axiomAt}
 use Rattle.eval.specs.declared.shape.Shape.{Shape}
 use Rattle.eval.specs.declared.judgement.Judgement.{Judgement}
@@ -41,7 +41,7 @@ use Rattle.model.specs.Trust.{Trusted}
 use Rattle.model.proofs.RowLaws.{put-take}
 use Rattle.model.proofs.JudgingLaws.{put-sets, four-words}
 use Rattle.capi.specs.Words.{Told, told, refused, given, deckWord, judgementWords, judgementTold, verdictTold, summaryWords, summaryTold}
-use Rattle.capi.specs.Calls.{evalConcept, checkAxiom, called, calledFor, run}
+use Rattle.capi.specs.Calls.{checkDeck, evalConcept, checkAxiom, called, calledFor, run}
 use Rattle.capi.specs.Promises.{FaultNamed, Judged, Checked, Relied}
 
 -- ---- four words
@@ -94,7 +94,7 @@ never ρ h z = absurd (omega (arith, above-zero ρ, h, z))
 refused-never : {X : Type 0} (ρ : Refusal) {answer answer′ : List ℕ} {r : ℕ} → told r answer′ ≡ refused ρ answer → r ≡ 0 → X
 refused-never ρ h z = never ρ (ap (λ (t : Told). t .number) h) z
 
--- ---- a word below `noWord` is the word of a fault
+-- ---- a word below `noWord` is the word of a fault, and a fault has one
 has-word : (ρ : Refusal) → wordOf ρ < noWord → 12 ≤ numberOf ρ
 has-word ρ h = ⊎-elim (λ (l : numberOf ρ < 12). absurd (omega (arith, h, unnamed ρ l))) (λ (l : 12 ≤ numberOf ρ). l) (lt-or-le (numberOf ρ) 12)
 
@@ -103,6 +103,11 @@ fault-named s Accepted is h l = absurd (omega (arith, h, l))
 fault-named s (Refused ρ) is h l =
     let pied = has-word ρ (rw h at l) in
     record { refusal = ρ; answered = is; pied = pied; word = sym h; named = named s ρ is pied }
+
+pub fault-known : (s : List ℕ) {r : ℕ} (a : DeckAnswer) → deckAnswer s ≡ a → r ≡ deckWord a → 12 ≤ checkDeck s → r < noWord
+unfolding checkDeck
+fault-known s Accepted is h l = absurd (omega (arith, rw is at l))
+fault-known s (Refused ρ) is h l = rw h (word-told s ρ is (rw is at l))
 
 -- ---- judging
 module _ (s labels : List ℕ) (rows : List (List ℕ)) (shape : Shape) (answer : List ℕ) {r : ℕ} where

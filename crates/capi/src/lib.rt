@@ -5,7 +5,7 @@
 mod words;
 
 ghost use mathlib.Core.Path.{_≡_};
-ghost use Prim.Native.Nat.{_<_};
+ghost use Prim.Native.Nat.{_<_, _≤_};
 ghost use lib.ListN.{take};
 ghost use Rattle.deck.specs.Refusal.{noWord};
 ghost use Rattle.deck.specs.Content.{deckOf};
@@ -48,6 +48,7 @@ pub extern "C" fn style_deck_check(deck: &[u8]) -> u32
 pub extern "C" fn style_deck_fault_word(deck: &[u8]) -> u32
     ensures is { λ r. ⌜ r ≡ faultWord (now (deck .entry)) ⌝ }
     ensures named { λ r. ⌜ (r < noWord → FaultNamed (now (deck .entry)) r) ⌝ }
+    ensures known { λ r. ⌜ (12 ≤ checkDeck (now (deck .entry)) → r < noWord) ⌝ }
 {
     deck_word(check_deck(deck))
 }

@@ -1,7 +1,7 @@
 use mathlib.Core.Path.{_∙_, ap, sym}
 use Rattle.capi.specs.Words.{deckWord}
 use Rattle.capi.specs.Calls.{faultWord}
-use Rattle.capi.proofs.CallLaws.{fault-named}
+use Rattle.capi.proofs.CallLaws.{fault-named, fault-known}
 use borrow.Author.Needs.{needs}
 use Rattle.capi.proofs.style_deck_fault_word.Statement.{statement}
 use Rattle.capi.proofs.style_deck_fault_word.Tie as tie
@@ -18,7 +18,10 @@ deck-word-requires c κs = search needs
 
 returns : tie.Need-returns
 unfolding faultWord
-returns c = (c .deck-word .ensures ∙ ap deckWord (c .before .check-deck .ensures), fault-named _ _ (sym (c .before .check-deck .ensures)) (c .deck-word .ensures))
+returns c =
+    let is = sym (c .before .check-deck .ensures) in
+    let word = c .deck-word .ensures in
+    (word ∙ ap deckWord (c .before .check-deck .ensures), (fault-named _ _ is word, fault-known _ _ is word))
 
 pub style-deck-fault-word-spec : {M : Type 1} → statement M
 style-deck-fault-word-spec = tie.close (tie.spec check-deck-requires deck-word-requires returns)
