@@ -185,6 +185,18 @@ def number(deck):
     return answer(deck)[0]
 
 
+def accept(deck):
+    """Refuses a deck that is not accepted, with its number and word."""
+    found = answer(deck)
+    if found != (0,):
+        raise Refused(*found)
+
+
+def stated(expected):
+    """A refusal as its author wrote it, a number alone or with a word, in the form of `answer`."""
+    return expected if isinstance(expected, tuple) else (expected,)
+
+
 # --- Building decks -------------------------------------------------------------------------------------------------
 
 class Deck:
@@ -287,7 +299,7 @@ def case(name, expected, deck, *edits):
     """A hand-made case, with what its author expects: a number, or one of 12 to 14 and a word."""
     data = deck if isinstance(deck, bytes) else deck.edited(*edits).bytes()
     found = answer(data)
-    assert found == (expected if isinstance(expected, tuple) else (expected,)), (name, expected, found)
+    assert found == stated(expected), (name, expected, found)
     add(name, data, found)
 
 

@@ -19,7 +19,8 @@ bytes, low byte first. A case is
     what is asked: first concept and count, first element and count, first axiom and count
 
 Printed is a line for each case, its name and for each concept a string with a character for each element: f, t, or the
-tag of an unresolved construct to base 36; then a line for each axiom, its number and the four words of its verdict.
+tag of an unresolved construct to base 36; then a line for each axiom, its number and the four words of its verdict. A
+refusal is its number, and its word if it has one.
 """
 import collections
 import pathlib
@@ -28,8 +29,8 @@ import struct
 import sys
 
 sys.path.insert(0, str(pathlib.Path(__file__).resolve().parent))
-from make_decks import (AXIOM_FORMS, BIG, CONCEPT_FORMS, Deck, Reader, Refused, base, deck_w, number,  # noqa: E402
-                        refuse)
+from make_decks import (AXIOM_FORMS, BIG, CONCEPT_FORMS, Deck, Reader, Refused, accept, base, deck_w,  # noqa: E402
+                        filled, out, refuse, stated, tag)
 from shared import check_name, finish, padded  # noqa: E402
 
 (TOP, BOT, ATOMIC, NOMINAL, SELF, NOT, AND, OR, SOME, ALL, MIN, MAX) = range(12)
@@ -77,8 +78,7 @@ class World:
     """A deck with a structure lent for it."""
 
     def __init__(self, deck, lent):
-        found = number(deck)
-        refuse(found, found != 0)
+        accept(deck)
         self.deck = Reader(deck)
         classes, roles = self.deck.count['classes'], self.deck.count['roles']
         width = (classes + 63) // 64
@@ -240,12 +240,17 @@ Ask = collections.namedtuple('Ask', 'concept concepts element elements axiom axi
 DIGITS = '0123456789abcdefghijklmnopqrstuvwxyz'
 
 
+def refused_words(refusal):
+    """A number, and the word if it is 12 to 14."""
+    return 'refused ' + ' '.join(str(part) for part in refusal)
+
+
 def worded(question):
     """What a question gives, or the words of its refusal."""
     try:
         return question()
     except Refused as refusal:
-        return 'refused %d' % refusal.args[0]
+        return refused_words(refusal.args)
 
 
 def printed(name, deck, lent, ask):
@@ -358,11 +363,11 @@ def case(name, deck, lent, judged, *verdicts):
 
 
 def refused(name, expected, deck, lent, concept=0, element=0, axiom=0):
-    """A hand-made case: a concept at an element and an axiom, both refused with this number. None is not asked."""
+    """A hand-made case: a concept at an element and an axiom, both refused so. None is not asked."""
     ask = Ask(concept or 0, int(concept is not None), element or 0, int(concept is not None), axiom or 0,
               int(axiom is not None))
     found = add(name, deck, lent, ask)
-    words = 'refused %d' % expected
+    words = refused_words(stated(expected))
     agree(name, [name + (' ' + words if ask.concepts else '')] + ['%d: %s' % (ask.axiom, words)] * ask.axioms, found)
 
 
@@ -925,15 +930,18 @@ def absent():
     words = b.bytes()
     decks = ((1, words[:-1]), (1, b''), (2, b.edited(('trailer', 0, 2)).bytes()),
              (3, b.edited(('trailer', 15, 262145)).bytes()), (4, b.edited(('trailer', 4, 1)).bytes()),
-             (12, b.edited(('classes', 0, 0, 2)).bytes()), (12, b.edited(('axioms', 25, 0, 26)).bytes()),
-             (13, b.edited(('facts', 1, 0, 3)).bytes()), (6, b.edited(('lists', 1, 1)).bytes()),
-             (7, b.edited(('concepts', 8, 2, 8)).bytes()), (14, b.edited(('concepts', 0, 3, 1)).bytes()),
-             (13, b.edited(('lists', 1, 9)).bytes()))
+             (tag('classes', 0), b.edited(('classes', 0, 0, 2)).bytes()),
+             (tag('axioms', 25), b.edited(('axioms', 25, 0, 26)).bytes()),
+             (out('facts', 1), b.edited(('facts', 1, 0, 3)).bytes()), (6, b.edited(('lists', 1, 1)).bytes()),
+             (7, b.edited(('concepts', 8, 2, 8)).bytes()),
+             (filled('concepts', 0, 3), b.edited(('concepts', 0, 3, 1)).bytes()),
+             (out('lists', 1), b.edited(('lists', 1, 9)).bytes()))
     for k, (expected, data) in enumerate(decks):
-        refused('deck-%d-first-%d' % (expected, k), expected, data, Lent([], 3, [(9, 9, 9)], 2), concept=99, element=99,
+        first = stated(expected)[0]
+        refused('deck-%d-first-%d' % (first, k), expected, data, Lent([], 3, [(9, 9, 9)], 2), concept=99, element=99,
                 axiom=99)
-        refused('deck-%d-alone-%d' % (expected, k), expected, data, Lent([0, 0, 0], 3, [], 0))
-        refused('deck-%d-over-nothing-%d' % (expected, k), expected, data, Lent([], 0, [], 0))
+        refused('deck-%d-alone-%d' % (first, k), expected, data, Lent([0, 0, 0], 3, [], 0))
+        refused('deck-%d-over-nothing-%d' % (first, k), expected, data, Lent([], 0, [], 0))
 
 
 # --- Random decks and structures ------------------------------------------------------------------------------------

@@ -21,7 +21,7 @@ from make_decks import Deck, base, deck_w, encoded, full
 from make_judgements import (ALL, AN_INDIVIDUAL, BIG, BOT, CHAIN, CLASS_OF, DIFFERENT, DISJOINT, DISJOINT_ROLES, DOMAIN,
                              EQUIVALENT, FUNCTIONAL, INVERSE_ROLES, MAX, MIN, NOMINAL, NOT, OR, RANGE, ROLE_OF, SAME,
                              SAME_ROLES, SELF, SOME, SUB_CLASS, SUB_ROLE, SYMMETRIC, TRANSITIVE, UNION, named)
-from make_runs import Bounds, Room, Rows, answered, own, random_case
+from make_runs import Bounds, Done, Room, Rows, answered, own, random_case
 from shared import check_name, finish
 
 LONGEST = 65536
@@ -42,9 +42,9 @@ def verdict_text(kind, *words):
 
 def text(data):
     """The lines that `verify` prints."""
-    found = 9 if len(data) > LONGEST else answered(data, BOUNDS, 4, ROOM)
-    if isinstance(found, int):
-        return ['refused %d' % found]
+    found = (9,) if len(data) > LONGEST else answered(data, BOUNDS, 4, ROOM)
+    if not isinstance(found, Done):
+        return ['refused %d' % found[0]]
     first = '%s %d %d %d' % (found.outcome, len(found.labels), len(found.edges), len(found.reasons))
     return [first] + ['%d %s' % (axiom, verdict_text(*words)) for axiom, words in enumerate(found.verdicts)]
 

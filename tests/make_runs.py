@@ -20,11 +20,12 @@ import collections
 import random
 import struct
 
-from make_decks import Deck, Reader, Refused, base, deck_w, number, refuse
+from make_decks import Deck, Reader, Refused, accept, base, deck_w, filled, number, out, refuse, stated, tag
 from make_judgements import (ALL, AND, AN_INDIVIDUAL, ATOMIC, A_CLASS, A_ROLE, ASYMMETRIC, BIG, BOT, CHAIN, DISJOINT,
                              DOMAIN, EQUIVALENT, HOLDS, INVERSE_ROLES, Lent, Made, MIN, NOMINAL, NOT, OR, RANGE,
                              SAME_ROLES, SOME, SUB_CLASS, SUB_ROLE, SYMMETRIC, TOP, TRANSITIVE, World, add_terms, fails,
-                             guarded, inverse, is_inverse, label_words, named, open_axiom, open_concept, role_of)
+                             guarded, inverse, is_inverse, label_words, named, open_axiom, open_concept, refused_words,
+                             role_of)
 from shared import check_name, finish, padded
 
 Bounds = collections.namedtuple('Bounds', 'elements edges rounds')
@@ -251,8 +252,7 @@ def need(deck, bounds):
 
 
 def run(data, bounds, last, room):
-    found = number(data)
-    refuse(found, found != 0)
+    accept(data)
     refuse(8, bounds.elements > 65535 or bounds.edges > 1048575 or bounds.rounds > 65535 or last not in (1, 2, 3, 4))
     deck = Reader(data)
     refuse(9, any(lent < least for lent, least in zip(room, need(deck, bounds))))
@@ -267,11 +267,11 @@ def run(data, bounds, last, room):
 
 
 def answered(data, bounds, last, room):
-    """What a run leaves, or the number of its refusal."""
+    """What a run leaves, or its refusal: the number, and the word if it is 12 to 14."""
     try:
         return run(data, bounds, last, room)
     except Refused as refusal:
-        return refusal.args[0]
+        return refusal.args
 
 
 # --- What is printed ------------------------------------------------------------------------------------------------
@@ -295,8 +295,8 @@ def written(found, classes, room):
 
 
 def printed(name, found, classes, room):
-    if isinstance(found, int):
-        first, buffers = 'refused %d' % found, dict.fromkeys(('labels', 'edges', 'log', 'verdicts'), [])
+    if not isinstance(found, Done):
+        first, buffers = refused_words(found), dict.fromkeys(('labels', 'edges', 'log', 'verdicts'), [])
     else:
         first = '%s %d %d %d' % (found.outcome, len(found.labels), len(found.edges), len(found.reasons))
         buffers = written(found, classes, room)
@@ -356,7 +356,7 @@ def add(name, deck, bounds=WIDE, last=4, room=None):
 def refused(name, expected, deck, bounds=WIDE, last=4, room=None):
     """A hand-made case that is refused."""
     found = add(name, deck, bounds, last, room)
-    assert found == expected, (name, expected, found)
+    assert found == stated(expected), (name, expected, found)
 
 
 def is_as_stated(found, outcome, labels, edges, reasons, verdicts):
@@ -907,17 +907,21 @@ def malformed():
              (2, b.edited(('trailer', 0, 0)).bytes()), (3, b.edited(('trailer', 3, 4097)).bytes()),
              (3, b.edited(('trailer', 15, 262145)).bytes()), (4, b.edited(('trailer', 4, 1)).bytes()),
              (4, b.edited(('real', 4)).bytes()), (4, b.edited(('trailer', 17, 5)).bytes()),
-             (12, b.edited(('classes', 0, 0, 2)).bytes()), (13, b.edited(('injected', 0, 2, 2)).bytes()),
-             (12, b.edited(('axioms', 25, 0, 26)).bytes()), (13, b.edited(('facts', 1, 0, 3)).bytes()),
-             (6, b.edited(('lists', 1, 1)).bytes()), (6, b.edited(('injected', 1, 1, 0)).bytes()),
-             (7, b.edited(('concepts', 8, 2, 8)).bytes()), (7, b.edited(('concepts', 5, 1, 11)).bytes()),
-             (14, b.edited(('concepts', 0, 3, 1)).bytes()), (14, b.edited(('axioms', 25, 3, 1)).bytes()))
+             (tag('classes', 0), b.edited(('classes', 0, 0, 2)).bytes()),
+             (out('injected', 0, 2), b.edited(('injected', 0, 2, 2)).bytes()),
+             (tag('axioms', 25), b.edited(('axioms', 25, 0, 26)).bytes()),
+             (out('facts', 1), b.edited(('facts', 1, 0, 3)).bytes()), (6, b.edited(('lists', 1, 1)).bytes()),
+             (6, b.edited(('injected', 1, 1, 0)).bytes()), (7, b.edited(('concepts', 8, 2, 8)).bytes()),
+             (7, b.edited(('concepts', 5, 1, 11)).bytes()),
+             (filled('concepts', 0, 3), b.edited(('concepts', 0, 3, 1)).bytes()),
+             (filled('axioms', 25, 3), b.edited(('axioms', 25, 3, 1)).bytes()))
     room = Room(10, 13, 6, 104)
     for k, (expected, deck) in enumerate(decks):
-        refused('malformed-%d-%d' % (expected, k), expected, deck, room=room)
+        refused('malformed-%d-%d' % (stated(expected)[0], k), expected, deck, room=room)
     for expected, deck in (decks[k] for k in (1, 4, 6, 9, 12, 13, 14, 16, 19)):
-        refused('malformed-%d-before-8' % expected, expected, deck, Bounds(BIG, BIG, BIG), last=0, room=room)
-        refused('malformed-%d-before-9' % expected, expected, deck, room=Room(0, 0, 0, 0))
+        first = stated(expected)[0]
+        refused('malformed-%d-before-8' % first, expected, deck, Bounds(BIG, BIG, BIG), last=0, room=room)
+        refused('malformed-%d-before-9' % first, expected, deck, room=Room(0, 0, 0, 0))
 
 
 # --- Random runs ----------------------------------------------------------------------------------------------------

@@ -236,8 +236,8 @@ CHANGES = [
     ('refusal: element at the count', "or element >= len(self.elements))", "or element > len(self.elements))"),
     ('refusal: axiom at A', "refuse(11, axiom >= self.deck.count['axioms'])",
      "refuse(11, axiom > self.deck.count['axioms'])"),
-    ('refusal: the deck after the structure', "        refuse(found, found != 0)\n",
-     "        refuse(10, lent.edge_count > len(lent.edges))\n        refuse(found, found != 0)\n"),
+    ('refusal: the deck after the structure', "        accept(deck)\n",
+     "        refuse(10, lent.edge_count > len(lent.edges))\n        accept(deck)\n"),
 ]
 
 # Changes that no structure can show: those of a Some by reading 34; a pair that stands twice gives the same answers

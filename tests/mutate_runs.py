@@ -19,8 +19,8 @@ CHANGES = [
     ('measure: phase 0', "last not in (1, 2, 3, 4))", "last not in (0, 1, 2, 3, 4))"),
     ('measure: phase 5', "last not in (1, 2, 3, 4))", "last not in (1, 2, 3, 4, 5))"),
     ('measure: a phase of one byte', "last not in (1, 2, 3, 4))", "last % 256 not in (1, 2, 3, 4, 0))"),
-    ('measure: before the deck', "    found = number(data)\n    refuse(found, found != 0)\n    refuse(8",
-     "    found = number(data)\n    refuse(8, last == 0)\n    refuse(found, found != 0)\n    refuse(8"),
+    ('measure: before the deck', "    accept(data)\n    refuse(8",
+     "    refuse(8, last == 0)\n    accept(data)\n    refuse(8"),
     ('room: before the measure', "    refuse(8, bounds.elements",
      "    refuse(9, any(lent < least for lent, least in zip(room, need(Reader(data), bounds))))\n"
      "    refuse(8, bounds.elements"),

@@ -57,7 +57,11 @@ fn run_case(bounds: Bounds, phase: Phase, lengths: [usize; 4], deck: &[u8]) -> S
         verdicts: &mut verdicts,
     };
     let mut text = match run_in(deck, bounds, phase, lent) {
-        Err(refusal) => format!(" refused {}\n", refusal.number()),
+        Err(refusal) => {
+            let word = refusal.word().map(|word| format!(" {}", word.0));
+            let word = word.unwrap_or_default();
+            format!(" refused {}{word}\n", refusal.number())
+        }
         Ok(s) => format!(" {} {} {} {}\n", s.outcome, s.elements, s.edges, s.reasons),
     };
     let flat = |edges: &[Edge]| edges.iter().flat_map(edge_words).collect::<Vec<u32>>();

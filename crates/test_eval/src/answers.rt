@@ -5,7 +5,10 @@
 use cases::numbers::number_at;
 use deck::numbers::ConceptId;
 use deck::numbers::Element;
+use deck::refusal::NO_WORD;
 use deck::refusal::Refusal;
+use deck::refusal::refusal_number;
+use deck::refusal::refusal_word;
 use eval::entry::AxiomAnswer;
 use eval::entry::ConceptAnswer;
 use eval::judgement::Judgement;
@@ -50,7 +53,12 @@ fn digit(tag: u32) -> u8 {
 
 fn print_refusal(refusal: Refusal) {
     io::write_all(STDOUT_FILENO, b"refused ");
-    print_number(deck::refusal::refusal_number(refusal));
+    print_number(refusal_number(refusal));
+    let word = refusal_word(refusal);
+    if word != NO_WORD {
+        print_byte(b' ');
+        print_number(word);
+    }
 }
 
 fn print_judgement(judgement: Judgement) {

@@ -15,6 +15,10 @@ use asked::Asked;
 use cases::words::MOST;
 use cases::words::part;
 use cases::words::word_or_0;
+use deck::refusal::NO_WORD;
+use deck::refusal::Refusal;
+use deck::refusal::refusal_number;
+use deck::refusal::refusal_word;
 use libc::STDOUT_FILENO;
 use model::outcome::Outcome;
 use model::run::RunAnswer;
@@ -43,12 +47,18 @@ fn print_done(outcome: Outcome, tally: Tally) {
     print_number(tally.reasons);
 }
 
+fn print_refusal(refusal: Refusal) {
+    io::write_all(STDOUT_FILENO, b" refused");
+    print_number(refusal_number(refusal));
+    let word = refusal_word(refusal);
+    if word != NO_WORD {
+        print_number(word);
+    }
+}
+
 fn print_answer(answer: RunAnswer) {
     match answer {
-        RunAnswer::Refused(refusal) => {
-            io::write_all(STDOUT_FILENO, b" refused");
-            print_number(deck::refusal::refusal_number(refusal));
-        }
+        RunAnswer::Refused(refusal) => print_refusal(refusal),
         RunAnswer::Done(outcome, tally) => print_done(outcome, tally),
     }
     io::write_all(STDOUT_FILENO, b"\n");
