@@ -39,6 +39,12 @@ axiom 1 asked alone holds
 LINES
 }
 
+# On that deck with 26 for the tag of its first axiom it tells the fault and its word, and does not succeed.
+engine_refuses() {
+    cp crates/verify/stdin "$made/faulty" && printf '\032' | dd of="$made/faulty" bs=1 seek=88 conv=notrunc || return 1
+    ! "$made/$1" "$made/faulty" >"$made/printed" && echo "refused 12 at word 22" | diff -u - "$made/printed"
+}
+
 wrapper() { (cd bindings/rust && cargo test --offline); }
 readings() { (cd tests/differential && cargo test --offline --release); }
 compared() { (cd tests/differential && cargo run --offline --release -- 1 20000); }
@@ -51,6 +57,7 @@ for language in "c99 cc -std=c99" "c++17 c++ -x c++ -std=c++17"; do
     shift
     try "examples/engine.c compiles as $standard" compile "engine-$standard" examples/engine.c "$@"
     try "examples/engine.c prints what it should ($standard)" engine_prints "engine-$standard"
+    try "examples/engine.c tells the word of a fault ($standard)" engine_refuses "engine-$standard"
     try "tests/empty.c compiles as $standard" compile "empty-$standard" tests/empty.c "$@"
     try "empty buffers may be NULL ($standard)" "$made/empty-$standard"
 done

@@ -3,7 +3,7 @@
 // All seven counts are at their limits, and rows, operand lists and axiom lists together name each list word once.
 // Then the same with tags in no order, and a deck of which every concept and axiom names all list words.
 //
-// The check against that of another libbench_deck.a, turn by turn in one run:
+// The check against that of another libbench_deck.a, turn by turn in one run, deck W besides:
 //     objcopy --redefine-sym check_deck_number=check_before -L sum_words OTHER/libbench_deck.a target/before.a
 //     gcc -O2 -DBEFORE -o target/bench_ratio tests/bench/deck.c target/staticlib/libbench_deck.a target/before.a
 #include <stdint.h>
@@ -136,6 +136,22 @@ static size_t make_overlapping(void) {
     return (size_t)(out - words) * 4;
 }
 
+#ifdef BEFORE
+// Document 01's deck W. Answers the deck's bytes.
+static size_t make_w(void) {
+    static const uint32_t counts[7] = {2, 1, 0, 3, 2, 1, 4};
+    out = words;
+    put3(0, 0, 1), put3(0, 1, 2);
+    put4(3, 1, 4, 0);
+    put4(2, 0, 0, 0), put4(2, 1, 0, 0), put4(8, 0, 0, 0);
+    put4(0, 1, 0, 0), put4(0, 1, 2, 0);
+    put3(1, 0, 0);
+    put4(0, 0, 1, 0);
+    trailer(counts);
+    return (size_t)(out - words) * 4;
+}
+#endif
+
 static double now(void) {
     struct timespec t;
     clock_gettime(CLOCK_MONOTONIC, &t);
@@ -147,30 +163,32 @@ static double least(double a, double b) { return a < b ? a : b; }
 #ifdef BEFORE
 extern uint32_t check_before(const uint8_t *deck, size_t length);
 
-// The least times of both checks, of so many turns each, and their ratio.
-static uint32_t ratio(const char *name, size_t bytes, int turns) {
+// The least times of both checks, of so many turns of so many calls each, and their ratio.
+static uint32_t ratio(const char *name, size_t bytes, int turns, int calls) {
     const uint8_t *deck = (const uint8_t *)words;
     double now_least = 1e12, before_least = 1e12;
     uint32_t answer = 0;
     while (turns-- > 0) {
         double a = now();
-        answer |= check_deck_number(deck, bytes);
+        for (int k = 0; k < calls; k++) answer |= check_deck_number(deck, bytes);
         double b = now();
-        answer |= check_before(deck, bytes);
+        for (int k = 0; k < calls; k++) answer |= check_before(deck, bytes);
         double c = now();
         now_least = least(now_least, b - a), before_least = least(before_least, c - b);
     }
-    printf("%-18s %9.1f us, before %9.1f us, ratio %.3f\n", name, now_least, before_least, now_least / before_least);
+    printf("%-18s %11.3f us, before %11.3f us, ratio %.3f\n", name, now_least / calls, before_least / calls,
+           now_least / before_least);
     return answer;
 }
 
 int main(void) {
     make_deck();
-    uint32_t answer = ratio("check", sizeof words, 2000);
+    uint32_t answer = ratio("check", sizeof words, 2000, 1);
     mixed = 1;
     make_deck();
-    answer |= ratio("tags mixed", sizeof words, 2000);
-    answer |= ratio("overlapping lists", make_overlapping(), 3);
+    answer |= ratio("tags mixed", sizeof words, 2000, 1);
+    answer |= ratio("overlapping lists", make_overlapping(), 3, 1);
+    answer |= ratio("deck W", make_w(), 2000, 1000);
     return answer != 0;
 }
 #else
