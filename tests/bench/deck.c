@@ -3,7 +3,8 @@
 // All seven counts are at their limits, and rows, operand lists and axiom lists together name each list word once.
 // Then the same with tags in no order, and a deck of which every concept and axiom names all list words.
 //
-// The check against that of another libbench_deck.a, turn by turn in one run, deck W besides:
+// The check against that of another libbench_deck.a, turn by turn in one run, deck W besides, whose time hangs on where the code
+// lies: link the two in either order.
 //     objcopy --redefine-sym check_deck_number=check_before -L sum_words OTHER/libbench_deck.a target/before.a
 //     gcc -O2 -DBEFORE -o target/bench_ratio tests/bench/deck.c target/staticlib/libbench_deck.a target/before.a
 #include <stdint.h>
