@@ -137,7 +137,17 @@ static size_t make_overlapping(void) {
     return (size_t)(out - words) * 4;
 }
 
+static double now(void) {
+    struct timespec t;
+    clock_gettime(CLOCK_MONOTONIC, &t);
+    return t.tv_sec * 1e6 + t.tv_nsec / 1e3;
+}
+
+static double least(double a, double b) { return a < b ? a : b; }
+
 #ifdef BEFORE
+extern uint32_t check_before(const uint8_t *deck, size_t length);
+
 // Document 01's deck W. Answers the deck's bytes.
 static size_t make_w(void) {
     static const uint32_t counts[7] = {2, 1, 0, 3, 2, 1, 4};
@@ -151,18 +161,6 @@ static size_t make_w(void) {
     trailer(counts);
     return (size_t)(out - words) * 4;
 }
-#endif
-
-static double now(void) {
-    struct timespec t;
-    clock_gettime(CLOCK_MONOTONIC, &t);
-    return t.tv_sec * 1e6 + t.tv_nsec / 1e3;
-}
-
-static double least(double a, double b) { return a < b ? a : b; }
-
-#ifdef BEFORE
-extern uint32_t check_before(const uint8_t *deck, size_t length);
 
 // The least times of both checks, of so many turns of so many calls each, and their ratio.
 static uint32_t ratio(const char *name, size_t bytes, int turns, int calls) {
