@@ -7,7 +7,7 @@ use Rattle.deck.specs.declared.refusal.Refusal.the-variants.{ShortBuffer}
 use Rattle.deck.specs.Records.{deckAnswer}
 use Rattle.eval.specs.declared.shape.Shape.{Shape}
 use Rattle.eval.specs.Entry.{conceptAnswer, axiomAnswer}
-use Rattle.model.specs.declared.bounds.Bounds.{Bounds}
+use Rattle.build.specs.declared.bounds.Bounds.{Bounds}
 use Rattle.model.specs.declared.run.RunAnswer.{RunAnswer}
 use Rattle.model.specs.Run as model
 use Rattle.model.specs.Run.{Ran, ran}

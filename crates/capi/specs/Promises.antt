@@ -19,7 +19,7 @@ use Rattle.eval.specs.Judge.{Right, truth}
 use Rattle.eval.specs.Justified.{Justified}
 use Rattle.eval.specs.Verdict.{wordsOf}
 use Rattle.model.specs.declared.outcome.Outcome.{Outcome}
-use Rattle.model.specs.declared.tally.Tally.{Tally}
+use Rattle.build.specs.declared.tally.Tally.{Tally}
 use Rattle.model.specs.Run.{shapeIn}
 use Rattle.model.specs.Trust.{Trusted}
 use Rattle.capi.specs.Words.{judgementWords, summaryWords}

@@ -15,9 +15,9 @@ use Rattle.eval.specs.declared.entry.AxiomAnswer.{AxiomAnswer}
 use Rattle.eval.specs.Verdict.{wordsOf}
 use Rattle.model.specs.declared.outcome.Outcome.{Outcome}
 use Rattle.model.specs.declared.outcome.Outcome.the-variants.{Confirmed, Failed, Open}
-use Rattle.model.specs.declared.tally.Tally.{Tally}
+use Rattle.build.specs.declared.tally.Tally.{Tally}
 use Rattle.model.specs.declared.run.RunAnswer.{RunAnswer}
-use Rattle.model.specs.Rows.{put}
+use Rattle.build.specs.Rows.{put}
 
 -- the number that a call returns, and what the buffer lent for its answer then holds
 pub record Told : Type 0 where

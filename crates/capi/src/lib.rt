@@ -26,7 +26,7 @@ use deck::refusal::Refusal;
 use deck::refusal::refusal_number;
 use eval::entry::check_axiom_in;
 use eval::entry::eval_concept_in;
-use model::bounds::Bounds;
+use build::bounds::Bounds;
 use model::run::run;
 use report::report;
 use words::deck_number;

@@ -6,20 +6,21 @@ use Rattle.deck.specs.Deck.{Deck, classCount}
 use Rattle.deck.specs.Content.{deckOf}
 use Rattle.deck.specs.declared.numbers.ClassId.{ClassId}
 use Rattle.eval.specs.Lent.{labelWidth}
-use Rattle.model.specs.declared.bounds.Bounds.{Bounds}
-use Rattle.model.specs.declared.reasons.Reason.{Reason}
-use Rattle.model.specs.declared.tally.Tally.{Tally}
-use Rattle.model.specs.declared.target_label.Target.{Target}
-use Rattle.model.specs.declared.target_label.Target.the-variants.{Row, Delta}
-use Rattle.model.specs.Rows.{rowsOf}
-use Rattle.model.specs.Seed.{rowLabel}
-use Rattle.model.specs.Reasons.{runDelta, noted, counted}
-use Rattle.model.specs.Push.{quiet}
-use Rattle.model.specs.Target.{TargetFits}
-use Rattle.model.specs.Model.{Buffers, lent, begun, Prepared, Built, reach}
-use Rattle.model.specs.FactIndex.{Tail, Recalled}
+use Rattle.build.specs.declared.bounds.Bounds.{Bounds}
+use Rattle.build.specs.declared.reasons.Reason.{Reason}
+use Rattle.build.specs.declared.tally.Tally.{Tally}
+use Rattle.build.specs.declared.target_label.Target.{Target}
+use Rattle.build.specs.declared.target_label.Target.the-variants.{Row, Delta}
+use Rattle.build.specs.Rows.{rowsOf}
+use Rattle.build.specs.Seed.{rowLabel}
+use Rattle.build.specs.Reasons.{runDelta, noted, counted}
+use Rattle.build.specs.Push.{quiet}
+use Rattle.build.specs.Target.{TargetFits}
+use Rattle.build.specs.Model.{Buffers, lent, begun, Prepared, Built, reach}
+use Rattle.model.specs.FactIndex.{Recalled}
+use Rattle.build.specs.Push.{Tail}
 use Rattle.model.specs.Expand.{linkTarget}
-use Rattle.model.proofs.BuildLaws.{prepared-after, built-is, built-same, built-note, built-start}
+use Rattle.build.proofs.BuildLaws.{prepared-after, built-is, built-same, built-note, built-start}
 
 -- the edge to the target is the edge to the row of k once the reason is noted
 pub record Aimed (D : Deck) (floor : List ℕ) (B : Bounds) (b : Buffers) (t : Tally) (label : List ℕ) (e y r : ℕ) (target : Target) (log : List ℕ) (held : Tally) (k : ClassId) : Type 0 where

@@ -23,14 +23,14 @@ use Rattle.eval.proofs.LinkLaws.{both, has-edge-is}
 use Rattle.eval.proofs.EdgeLaws as edge-laws
 use Rattle.model.specs.declared.rules.Rule.{Rule}
 use Rattle.model.specs.declared.rules.Rule.the-variants.{Compose, NoRule}
-use Rattle.model.specs.declared.tally.Tally.{Tally}
-use Rattle.model.specs.declared.tally.Step.{Step}
-use Rattle.model.specs.Push.{State, edge, added, pushEdge, Left}
+use Rattle.build.specs.declared.tally.Tally.{Tally}
+use Rattle.build.specs.declared.tally.Step.{Step}
+use Rattle.build.specs.Push.{State, edge, added, pushEdge, Left}
 use Rattle.model.specs.Rules.{ruleOf, RuleFits}
-use Rattle.model.specs.Walk.{walk}
+use Rattle.build.specs.Walk.{walk}
 use Rattle.model.specs.Closing.{graph, join, closeFrom, closeRule, closeBy, closeAxiom, closePass, EdgesFit, Ready}
-use Rattle.model.proofs.PushLaws.{left-room, left-edges}
-use Rattle.model.proofs.WalkLaws.{walk-keeps, walk-fixed, walk-placed}
+use Rattle.build.proofs.PushLaws.{left-room, left-edges}
+use Rattle.build.proofs.WalkLaws.{walk-keeps, walk-fixed, walk-placed}
 
 -- ---- the edges of a state
 rows-edges : (es : List Edge) → map edgeOf (map rowOf es) ≡ es

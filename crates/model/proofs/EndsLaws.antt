@@ -24,19 +24,19 @@ use Rattle.eval.proofs.Clash.{clash}
 use Rattle.eval.proofs.ListLaws.{member-at}
 use Rattle.eval.proofs.EdgeWalks.{noEdge, edges-length, edges-at}
 use Rattle.eval.proofs.IndexLaws.{goes-off}
-use Rattle.model.specs.Label.{labelHas, insertBit}
-use Rattle.model.specs.declared.tally.Tally.{Tally}
-use Rattle.model.specs.declared.tally.Step.{Step}
+use Rattle.build.specs.Label.{labelHas, insertBit}
+use Rattle.build.specs.declared.tally.Tally.{Tally}
+use Rattle.build.specs.declared.tally.Step.{Step}
 use Rattle.model.specs.Pairs.{Near}
-use Rattle.model.specs.Push.{State, edge, added, quiet, start, Left, Room}
-use Rattle.model.specs.Walk.{walk}
+use Rattle.build.specs.Push.{State, edge, added, quiet, start, Left, Room}
+use Rattle.build.specs.Walk.{walk}
 use Rattle.model.specs.Closing.{graph, join, closeFrom, EdgesFit}
 use Rattle.model.specs.Ends.{Ends, isNew, addEnd, addEnds}
-use Rattle.model.proofs.MemberLaws.{has-insert}
+use Rattle.build.proofs.MemberLaws.{has-insert}
 use Rattle.model.proofs.NextLaws.{any-snoc, edges-next, near-first, near-nothing, next-none, next-some}
 use Rattle.model.proofs.WordLaws.{NoneOf, bit-without, word-step, word-hit}
-use Rattle.model.proofs.PushLaws.{left-is}
-use Rattle.model.proofs.WalkLaws.{OnEdges, on-start, on-done, on-stop, on-next}
+use Rattle.build.proofs.PushLaws.{left-is}
+use Rattle.build.proofs.WalkLaws.{OnEdges, on-start, on-done, on-stop, on-next}
 use Rattle.model.proofs.CloseLaws.{linked-is, join-known, join-new, join-stuck}
 
 -- ---- edge by edge

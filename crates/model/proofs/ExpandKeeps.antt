@@ -9,17 +9,17 @@ use Rattle.deck.specs.Deck.{Deck, Fact, roleCount, classCount}
 use Rattle.deck.specs.Sound.{Sound}
 use Rattle.eval.specs.Lists.{range}
 use Rattle.eval.proofs.ListLaws.{position}
-use Rattle.model.specs.declared.bounds.Bounds.{Bounds}
-use Rattle.model.specs.declared.target_label.Target.{Target}
-use Rattle.model.specs.declared.target_label.Target.the-variants.{Row, Delta, NotClosed}
-use Rattle.model.specs.Label.{labelHas, insertBit}
-use Rattle.model.specs.Seed.{rowLabel}
-use Rattle.model.specs.Reasons.{runDelta, labelNotClosed}
-use Rattle.model.specs.Target.{targetOf}
-use Rattle.model.specs.Model.{Model, noteIn}
+use Rattle.build.specs.declared.bounds.Bounds.{Bounds}
+use Rattle.build.specs.declared.target_label.Target.{Target}
+use Rattle.build.specs.declared.target_label.Target.the-variants.{Row, Delta, NotClosed}
+use Rattle.build.specs.Label.{labelHas, insertBit}
+use Rattle.build.specs.Seed.{rowLabel}
+use Rattle.build.specs.Reasons.{runDelta, labelNotClosed}
+use Rattle.build.specs.Target.{targetOf}
+use Rattle.build.specs.Model.{Model, noteIn}
 use Rattle.model.specs.Expand.{highest, linkTarget, workFact, factStep, workFacts, classStep, workClasses, nextTurn, turns, expand}
-use Rattle.model.proofs.InternLaws.{by-cond, by-case}
-use Rattle.model.proofs.SeedLaws.{noFact}
+use Rattle.build.proofs.InternLaws.{by-cond, by-case}
+use Rattle.build.proofs.SeedLaws.{noFact}
 use Rattle.model.proofs.TidyLaws.{Tidy, tidy-row-label}
 use Rattle.model.proofs.ExpandLaws.{highest-is, facts-in-order}
 use Rattle.model.proofs.KeepLaws.{Kept, kept-same, kept-trans, note-kept, walk-kept, reach-kept}

@@ -15,21 +15,21 @@ use borrow.Author.Tests.{eq-eqb, ne-eqb}
 use Rattle.deck.specs.Deck.{Deck, Fact}
 use Rattle.deck.specs.Content.{deckOf}
 use Rattle.eval.specs.Lent.{labelWidth}
-use Rattle.model.specs.declared.bounds.Bounds.{Bounds}
-use Rattle.model.specs.declared.tally.Tally.{Tally}
-use Rattle.model.specs.declared.tally.Step.{Step}
-use Rattle.model.specs.declared.target_label.Target.{Target}
-use Rattle.model.specs.Label.{labelHas, insertBit}
-use Rattle.model.specs.Push.{quiet}
-use Rattle.model.specs.Target.{targetOf}
-use Rattle.model.specs.Model.{Model, Buffers, begun, Built, Prepared}
+use Rattle.build.specs.declared.bounds.Bounds.{Bounds}
+use Rattle.build.specs.declared.tally.Tally.{Tally}
+use Rattle.build.specs.declared.tally.Step.{Step}
+use Rattle.build.specs.declared.target_label.Target.{Target}
+use Rattle.build.specs.Label.{labelHas, insertBit}
+use Rattle.build.specs.Push.{quiet}
+use Rattle.build.specs.Target.{targetOf}
+use Rattle.build.specs.Model.{Model, Buffers, begun, Built, Prepared}
 use Rattle.model.specs.Expand.{linkTarget, workFact, factStep, workFacts, classStep, workClasses, highest, nextTurn, turns, expandIn}
-use Rattle.model.proofs.MemberLaws.{has-insert, none-has}
-use Rattle.model.proofs.RowLaws.{length-rows}
-use Rattle.model.specs.Walk.{walk}
-use Rattle.model.proofs.SeedLaws.{noFact}
-use Rattle.model.proofs.WalkLaws.{walk-fixed, walk-placed}
-use Rattle.model.proofs.BuildLaws.{built-is, built-same, built-trans, built-start, built-quiet, built-tripped}
+use Rattle.build.proofs.MemberLaws.{has-insert, none-has}
+use Rattle.build.proofs.RowLaws.{length-rows}
+use Rattle.build.specs.Walk.{walk}
+use Rattle.build.proofs.SeedLaws.{noFact}
+use Rattle.build.proofs.WalkLaws.{walk-fixed, walk-placed}
+use Rattle.build.proofs.BuildLaws.{built-is, built-same, built-trans, built-start, built-quiet, built-tripped}
 
 cond-true : {A : Type 0} (b : Bool) (x y : A) → b ≡ true → cond b x y ≡ x
 cond-true true x y h = refl

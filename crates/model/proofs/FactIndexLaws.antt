@@ -20,18 +20,18 @@ use Rattle.deck.specs.Deck.{Deck, Fact, classCount, factCount, factAt}
 use Rattle.eval.specs.Lists.{range}
 use Rattle.eval.proofs.Clash.{clash}
 use Rattle.eval.proofs.Walks.{list-step, range-end}
-use Rattle.model.specs.declared.bounds.Bounds.{Bounds}
-use Rattle.model.specs.Walk.{walk}
-use Rattle.model.specs.Label.{labelHas, insertBit}
-use Rattle.model.specs.declared.tally.Tally.{Tally}
-use Rattle.model.specs.Model.{Model, Buffers, begun}
+use Rattle.build.specs.declared.bounds.Bounds.{Bounds}
+use Rattle.build.specs.Walk.{walk}
+use Rattle.build.specs.Label.{labelHas, insertBit}
+use Rattle.build.specs.declared.tally.Tally.{Tally}
+use Rattle.build.specs.Model.{Model, Buffers, begun}
 use Rattle.model.specs.Expand.{factStep, workFacts, classStep, workClasses, highest, nextTurn, turns}
 use Rattle.model.specs.FactIndex.{nextFact, Indexed, Marked}
-use Rattle.model.proofs.SeedLaws.{noFact}
-use Rattle.model.proofs.WalkLaws.{walk-fixed, walk-step, walk-end}
+use Rattle.build.proofs.SeedLaws.{noFact}
+use Rattle.build.proofs.WalkLaws.{walk-fixed, walk-step, walk-end}
 use Rattle.model.proofs.SkipLaws.{range-skip}
-use Rattle.model.proofs.BuildLaws.{OnModel}
-use Rattle.model.proofs.MemberLaws.{by-cases, has-insert, none-has}
+use Rattle.build.proofs.BuildLaws.{OnModel}
+use Rattle.build.proofs.MemberLaws.{by-cases, has-insert, none-has}
 use Rattle.model.proofs.ExpandLaws.{fact-other, class-yes, class-no}
 
 -- ---- the next fact of a class

@@ -9,13 +9,13 @@ use Rattle.eval.specs.Lists.{keep, range}
 use Rattle.eval.specs.Edges.{edgesOf}
 use Rattle.model.specs.declared.pairs.Found.{Found}
 use Rattle.model.specs.declared.pairs.Found.the-variants.{At, Nothing}
-use Rattle.model.specs.declared.tally.Tally.{Tally}
-use Rattle.model.specs.declared.tally.Step.{Step}
+use Rattle.build.specs.declared.tally.Tally.{Tally}
+use Rattle.build.specs.declared.tally.Step.{Step}
 use Rattle.model.specs.Pairs.{linkKey, first}
-use Rattle.model.specs.Push.{State, quiet, start, Left, Room}
-use Rattle.model.specs.Walk.{walk}
+use Rattle.build.specs.Push.{State, quiet, start, Left, Room}
+use Rattle.build.specs.Walk.{walk}
 use Rattle.model.proofs.NextLaws.{next-none, next-from, next-hit, next-below, next-some}
-use Rattle.model.proofs.WalkLaws.{OnEdges, on-start, on-done, on-stop, on-next}
+use Rattle.build.proofs.WalkLaws.{OnEdges, on-start, on-done, on-stop, on-next}
 
 -- the numbers of the pairs of r among the edges of before, from a on and below `end`
 abbrev pub keys : Deck → ℕ → List (List ℕ) → Tally → ℕ → ℕ → List ℕ

@@ -18,11 +18,11 @@ use Rattle.eval.specs.Structure.{Structure}
 use Rattle.eval.specs.Verdict.{wordsOf, verdict}
 use Rattle.eval.proofs.Walks.{list-step}
 use Rattle.model.specs.declared.judging.Judged.{Judged}
-use Rattle.model.specs.Rows.{put}
+use Rattle.build.specs.Rows.{put}
 use Rattle.model.specs.Outcome.{isFails, isUnresolved}
 use Rattle.model.specs.Run.{verdictsIn, wordsIn}
-use Rattle.model.proofs.MemberLaws.{or-assoc}
-use Rattle.model.proofs.PushLaws.{sets-append}
+use Rattle.build.proofs.MemberLaws.{or-assoc}
+use Rattle.build.proofs.PushLaws.{sets-append}
 
 -- what is put at the start is stored from the start on
 pub put-sets : {A : Type 0} (buf xs : List A) → length xs ≤ length buf → sets buf 0 xs ≡ put buf xs

@@ -18,20 +18,20 @@ use Rattle.eval.specs.declared.edges.Edge.{Edge}
 use Rattle.eval.specs.Edges.{edgeIn}
 use Rattle.eval.specs.Lent.{EdgeFits}
 use Rattle.eval.proofs.Clash.{clash}
-use Rattle.model.specs.declared.bounds.Bounds.{Bounds}
-use Rattle.model.specs.declared.reasons.Reason.{Reason}
-use Rattle.model.specs.Walk.{walk}
-use Rattle.model.specs.Intern.{indexOf, interned}
-use Rattle.model.specs.Reasons.{boundTripped}
-use Rattle.model.specs.Push.{State, edge, added, pushEdge}
+use Rattle.build.specs.declared.bounds.Bounds.{Bounds}
+use Rattle.build.specs.declared.reasons.Reason.{Reason}
+use Rattle.build.specs.Walk.{walk}
+use Rattle.build.specs.Intern.{indexOf, interned}
+use Rattle.build.specs.Reasons.{boundTripped}
+use Rattle.build.specs.Push.{State, edge, added, pushEdge}
 use Rattle.model.specs.Closing.{EdgesFit}
-use Rattle.model.specs.Model.{Model, noteState, tripState, noteIn, tripIn, withState, reach, top}
-use Rattle.model.specs.Exists.{Body, withReasons}
-use Rattle.model.proofs.InternLaws.{Extends, extends-same, extends-trans, extends-interned, extends-length, interned-known, interned-new, interned-grows, by-cond, by-case, index-le}
+use Rattle.build.specs.Model.{Model, noteState, tripState, noteIn, tripIn, withState, reach, top}
+use Rattle.build.specs.Exists.{Body, withReasons}
+use Rattle.build.proofs.InternLaws.{Extends, extends-same, extends-trans, extends-interned, extends-length, interned-known, interned-new, interned-grows, by-cond, by-case, index-le}
 use Rattle.model.proofs.TidyLaws.{Tidy, Labels, labels-interned}
 use Rattle.model.proofs.CloseLaws.{fits-snoc, Bound, bound-added}
-use Rattle.model.proofs.BuildLaws.{top-bound}
-use Rattle.model.proofs.WalkLaws.{walk-keeps}
+use Rattle.build.proofs.BuildLaws.{top-bound}
+use Rattle.build.proofs.WalkLaws.{walk-keeps}
 
 -- past a bound there is only the element or edge that tripped it
 pub record Within (D : Deck) (B : Bounds) (m : Model) : Type 0 where

@@ -9,12 +9,12 @@ use Rattle.deck.specs.Deck.{Deck}
 use Rattle.eval.specs.declared.edges.Edge.{Edge}
 use Rattle.eval.specs.Lists.{keep, range}
 use Rattle.eval.specs.Structure.{pair, hasEdge, successors, pairs}
-use Rattle.model.specs.Push.{State}
+use Rattle.build.specs.Push.{State}
 use Rattle.model.specs.Pairs.{pairOf, linkKey, EndsFit}
-use Rattle.model.specs.Walk.{walk}
+use Rattle.build.specs.Walk.{walk}
 use Rattle.model.specs.Closing.{graph, closeFrom, closeRule, EdgesFit}
 use Rattle.model.proofs.NextLaws.{keep-none}
-use Rattle.model.proofs.WalkLaws.{walk-map}
+use Rattle.build.proofs.WalkLaws.{walk-map}
 use Rattle.model.proofs.CloseLaws.{linked-is, linked-fits}
 
 -- ---- kept parts of a range

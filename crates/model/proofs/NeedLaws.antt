@@ -7,8 +7,8 @@ use lib.Dec.{leb, ltb}
 use borrow.Author.Tests.{lt-ltb, le-ltb, leb-true}
 use Rattle.deck.specs.Deck.{Deck, axiomCount, classCount}
 use Rattle.eval.specs.Lent.{labelWidth}
-use Rattle.model.specs.declared.bounds.Bounds.{Bounds}
-use Rattle.model.specs.Model.{top}
+use Rattle.build.specs.declared.bounds.Bounds.{Bounds}
+use Rattle.build.specs.Model.{top}
 use Rattle.model.specs.Run.{boundsFit, roomFits}
 
 -- both of two tests

@@ -12,16 +12,16 @@ use lib.Dec.{eqb}
 use Rattle.deck.specs.Deck.{Deck, classCount, factCount}
 use Rattle.eval.specs.Lists.{range}
 use Rattle.eval.specs.Lent.{bit, labelWidth, memberIn}
-use Rattle.model.specs.declared.bounds.Bounds.{Bounds}
-use Rattle.model.specs.declared.tally.Tally.{Tally}
-use Rattle.model.specs.Label.{labelHas}
-use Rattle.model.specs.Model.{Buffers, begun}
+use Rattle.build.specs.declared.bounds.Bounds.{Bounds}
+use Rattle.build.specs.declared.tally.Tally.{Tally}
+use Rattle.build.specs.Label.{labelHas}
+use Rattle.build.specs.Model.{Buffers, begun}
 use Rattle.model.specs.Expand.{classStep}
 use Rattle.model.specs.FactIndex.{Marked, Passed}
 use Rattle.model.proofs.SkipLaws.{range-skip}
 use Rattle.model.proofs.WordLaws.{bit-and, word-step}
-use Rattle.model.proofs.InternLaws.{label-member}
-use Rattle.model.proofs.BuildLaws.{OnModel}
+use Rattle.build.proofs.InternLaws.{label-member}
+use Rattle.build.proofs.BuildLaws.{OnModel}
 use Rattle.model.proofs.FactIndexLaws.{class-passed}
 
 -- ---- the loop: none below i counts

@@ -10,11 +10,11 @@ use borrow.Author.Tests.{eqb-false, eq-eqb, ne-eqb}
 use Rattle.deck.specs.Deck.{Deck}
 use Rattle.eval.specs.Edges.{edgesOf}
 use Rattle.eval.proofs.Clash.{clash}
-use Rattle.model.specs.declared.tally.Tally.{Tally}
-use Rattle.model.specs.declared.tally.Step.{Step}
-use Rattle.model.specs.Push.{State, reached, quiet, start, Left, Room}
+use Rattle.build.specs.declared.tally.Tally.{Tally}
+use Rattle.build.specs.declared.tally.Step.{Step}
+use Rattle.build.specs.Push.{State, reached, quiet, start, Left, Room}
 use Rattle.model.specs.Closing.{closePass, closing, close}
-use Rattle.model.proofs.PushLaws.{left-same, left-trans, left-is, left-start, left-quiet, left-count}
+use Rattle.build.proofs.PushLaws.{left-same, left-trans, left-is, left-start, left-quiet, left-count}
 use Rattle.model.proofs.CloseLaws.{pass-grows, grows-length, pass-bound}
 
 module _ (D : Deck) (n limit : ℕ) where

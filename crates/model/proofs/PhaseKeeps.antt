@@ -8,19 +8,19 @@ use lib.ListN.{length}
 use lib.Dec.{leb, ltb}
 use Rattle.deck.specs.Deck.{Deck, classAt, classCount}
 use Rattle.deck.specs.Sound.{Sound}
-use Rattle.model.specs.declared.bounds.Bounds.{Bounds}
-use Rattle.model.specs.Floor.{floorLabel}
-use Rattle.model.specs.Seed.{seeds, HasRow}
-use Rattle.model.specs.Reasons.{axiomsDropped}
+use Rattle.build.specs.declared.bounds.Bounds.{Bounds}
+use Rattle.build.specs.Floor.{floorLabel}
+use Rattle.build.specs.Seed.{seeds, HasRow}
+use Rattle.build.specs.Reasons.{axiomsDropped}
 use Rattle.model.specs.Closing.{EdgesFit}
-use Rattle.model.specs.Model.{Model, noteIn, top}
+use Rattle.build.specs.Model.{Model, noteIn, top}
 use Rattle.model.specs.Expand.{expand}
 use Rattle.model.specs.Rounds.{expandFromAxioms}
 use Rattle.model.specs.Phases.{phase, seeded, closeIn, laterPhases, phases, withDropped, construct}
-use Rattle.model.proofs.InternLaws.{extends-same, by-cond, by-case}
-use Rattle.model.proofs.SeedLaws.{real-seed, row-kept, seeds-few}
+use Rattle.build.proofs.InternLaws.{extends-same, by-cond, by-case}
+use Rattle.build.proofs.SeedLaws.{real-seed, row-kept, seeds-few}
 use Rattle.model.proofs.TidyLaws.{Labels, tidy-floor, seeds-labels}
-use Rattle.model.proofs.BuildLaws.{top-classes}
+use Rattle.build.proofs.BuildLaws.{top-classes}
 use Rattle.model.proofs.CloseLaws.{Bound}
 use Rattle.model.proofs.Closed.{close-fits, close-bound}
 use Rattle.model.proofs.KeepLaws.{Within, Kept, kept-same, kept-trans, note-kept}

@@ -13,26 +13,26 @@ use Rattle.deck.specs.Deck.{Deck, classCount}
 use Rattle.deck.specs.Content.{IsAccepted, deckOf}
 use Rattle.eval.specs.Edges.{edgesOf, rowOf}
 use Rattle.eval.specs.Lent.{labelWidth}
-use Rattle.model.specs.declared.bounds.Bounds.{Bounds}
-use Rattle.model.specs.declared.tally.Tally.{Tally}
-use Rattle.model.specs.declared.tally.Step.{Step}
-use Rattle.model.specs.Rows.{put, flat}
-use Rattle.model.specs.Intern.{Held}
-use Rattle.model.specs.Floor.{floorLabel}
-use Rattle.model.specs.Seed.{seeds, Seeded}
-use Rattle.model.specs.Reasons.{noted, counted, axiomsDropped}
-use Rattle.model.specs.Push.{State, start, stored, Left, Room}
+use Rattle.build.specs.declared.bounds.Bounds.{Bounds}
+use Rattle.build.specs.declared.tally.Tally.{Tally}
+use Rattle.build.specs.declared.tally.Step.{Step}
+use Rattle.build.specs.Rows.{put, flat}
+use Rattle.build.specs.Intern.{Held}
+use Rattle.build.specs.Floor.{floorLabel}
+use Rattle.build.specs.Seed.{seeds, Seeded}
+use Rattle.build.specs.Reasons.{noted, counted, axiomsDropped}
+use Rattle.build.specs.Push.{State, start, stored, Left, Room}
 use Rattle.model.specs.Closing.{close, EdgesFit, Ready}
-use Rattle.model.specs.Model.{Model, withState, noteIn, Buffers, lent, begun, among, top, Prepared, Built}
+use Rattle.build.specs.Model.{Model, withState, noteIn, Buffers, lent, begun, among, top, Prepared, Built}
 use Rattle.model.specs.Expand.{expand, expandIn}
 use Rattle.model.specs.Rounds.{expandFromAxioms}
 use Rattle.model.specs.Phases.{phase, seeded, closeIn, laterPhases, phases, withDropped, construct, Dropped, Constructed}
-use Rattle.model.proofs.RowLaws.{length-rows, rows-put, room-below}
-use Rattle.model.proofs.InternLaws.{held-start, held-on}
-use Rattle.model.proofs.SeedLaws.{seeds-wide, seeds-few}
-use Rattle.model.proofs.PushLaws.{left-words, left-edges, left-log, left-count}
+use Rattle.build.proofs.RowLaws.{length-rows, rows-put, room-below}
+use Rattle.build.proofs.InternLaws.{held-start, held-on}
+use Rattle.build.proofs.SeedLaws.{seeds-wide, seeds-few}
+use Rattle.build.proofs.PushLaws.{left-words, left-edges, left-log, left-count}
 use Rattle.model.proofs.JudgingLaws.{put-sets}
-use Rattle.model.proofs.BuildLaws.{all-fit, left-among, top-classes, built-is, built-trans, built-start, built-quiet, built-count, prepared-after}
+use Rattle.build.proofs.BuildLaws.{all-fit, left-among, top-classes, built-is, built-trans, built-start, built-quiet, built-count, prepared-after}
 use Rattle.model.proofs.TidyLaws.{tidy-floor}
 use Rattle.model.proofs.KeepLaws.{kept-trans}
 use Rattle.model.proofs.ExpandKeeps.{expand-kept}

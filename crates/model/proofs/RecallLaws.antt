@@ -14,23 +14,23 @@ use Rattle.deck.specs.Deck.{Deck, classCount, classAt}
 use Rattle.deck.specs.Content.{deckOf}
 use Rattle.deck.proofs.CaseLaws.{lt-or-le}
 use Rattle.eval.specs.Lent.{labelWidth}
-use Rattle.model.specs.declared.bounds.Bounds.{Bounds}
-use Rattle.model.specs.declared.tally.Tally.{Tally}
-use Rattle.model.specs.declared.tally.Step.{Step}
-use Rattle.model.specs.Label.{sameLabel, labelOf}
-use Rattle.model.specs.Rows.{rowsOf}
-use Rattle.model.specs.Intern.{indexOf, interned}
-use Rattle.model.specs.Floor.{floored}
-use Rattle.model.specs.Seed.{rowLabel}
-use Rattle.model.specs.Push.{edge, pushEdge, start, Left}
-use Rattle.model.specs.Model.{Model, Buffers, lent, begun, Prepared, Built, reach}
+use Rattle.build.specs.declared.bounds.Bounds.{Bounds}
+use Rattle.build.specs.declared.tally.Tally.{Tally}
+use Rattle.build.specs.declared.tally.Step.{Step}
+use Rattle.build.specs.Label.{sameLabel, labelOf}
+use Rattle.build.specs.Rows.{rowsOf}
+use Rattle.build.specs.Intern.{indexOf, interned}
+use Rattle.build.specs.Floor.{floored}
+use Rattle.build.specs.Seed.{rowLabel}
+use Rattle.build.specs.Push.{edge, pushEdge, start, Left}
+use Rattle.build.specs.Model.{Model, Buffers, lent, begun, Prepared, Built, reach}
 use Rattle.model.specs.FactIndex.{Recalled}
-use Rattle.model.proofs.LabelLaws.{same-refl}
-use Rattle.model.proofs.MemberLaws.{by-cases, zero-word}
-use Rattle.model.proofs.RowLaws.{length-rows}
-use Rattle.model.proofs.InternLaws.{interned-known, interned-new, index-le, placed-known, held-rows}
-use Rattle.model.proofs.SeedLaws.{length-row-label}
-use Rattle.model.proofs.BuildLaws.{all-fit, reach-link}
+use Rattle.build.proofs.LabelLaws.{same-refl}
+use Rattle.build.proofs.MemberLaws.{by-cases, zero-word}
+use Rattle.build.proofs.RowLaws.{length-rows}
+use Rattle.build.proofs.InternLaws.{interned-known, interned-new, index-le, placed-known, held-rows}
+use Rattle.build.proofs.SeedLaws.{length-row-label}
+use Rattle.build.proofs.BuildLaws.{all-fit, reach-link}
 
 -- ---- places of labels
 index-append : (ls more : List (List ℕ)) (l : List ℕ) → indexOf ls l < length ls → indexOf (ls ++ more) l ≡ indexOf ls l

@@ -21,21 +21,22 @@ use Rattle.deck.specs.Reads.{AxiomRead, listOf}
 use Rattle.deck.proofs.CaseLaws.{Cases, case-at}
 use Rattle.eval.specs.Lent.{labelWidth}
 use Rattle.eval.specs.Lists.{range}
-use Rattle.model.specs.declared.bounds.Bounds.{Bounds}
-use Rattle.model.specs.declared.tally.Tally.{Tally}
-use Rattle.model.specs.declared.tally.Step.{Step}
-use Rattle.model.specs.Walk.{walk}
-use Rattle.model.specs.Reasons.{boundTripped}
-use Rattle.model.specs.Push.{quiet}
-use Rattle.model.specs.Model.{Model, tripIn, Buffers, begun, Prepared, Built}
-use Rattle.model.specs.Exists.{work}
-use Rattle.model.specs.Rounds.{isRule, holdsAtoms, fire, firePair, fireFrom, fireAxiom, visit, round, rounds}
-use Rattle.model.proofs.ExistsLaws.{work-stuck}
-use Rattle.model.proofs.RowLaws.{length-rows}
-use Rattle.model.proofs.InternLaws.{held-length}
-use Rattle.model.proofs.FloorLaws.{axiom-sub-class, axiom-equivalent}
-use Rattle.model.proofs.WalkLaws.{walk-fixed, walk-placed}
-use Rattle.model.proofs.BuildLaws.{fits-in, built-same, built-is, built-start, built-tripped, built-count, built-quiet, built-trans}
+use Rattle.build.specs.declared.bounds.Bounds.{Bounds}
+use Rattle.build.specs.declared.tally.Tally.{Tally}
+use Rattle.build.specs.declared.tally.Step.{Step}
+use Rattle.build.specs.Walk.{walk}
+use Rattle.build.specs.Reasons.{boundTripped}
+use Rattle.build.specs.Push.{quiet}
+use Rattle.build.specs.Model.{Model, tripIn, Buffers, begun, Prepared, Built}
+use Rattle.build.specs.Exists.{work}
+use Rattle.model.specs.Rounds.{fire, firePair, fireFrom, fireAxiom, visit, round, rounds}
+use Rattle.build.specs.Antecedent.{isRule, holdsAtoms}
+use Rattle.build.proofs.ExistsLaws.{work-stuck}
+use Rattle.build.proofs.RowLaws.{length-rows}
+use Rattle.build.proofs.InternLaws.{held-length}
+use Rattle.build.proofs.FloorLaws.{axiom-sub-class, axiom-equivalent}
+use Rattle.build.proofs.WalkLaws.{walk-fixed, walk-placed}
+use Rattle.build.proofs.BuildLaws.{fits-in, built-same, built-is, built-start, built-tripped, built-count, built-quiet, built-trans}
 
 pub either : {A : Type 0} (b : Bool) {x y z : A} → x ≡ z → y ≡ z → cond b x y ≡ z
 either true p q = p

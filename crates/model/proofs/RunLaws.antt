@@ -31,26 +31,26 @@ use Rattle.eval.specs.Verdict.{wordsOf, verdict}
 use Rattle.eval.proofs.Clash.{clash}
 use Rattle.eval.proofs.ListLaws.{member-at}
 use Rattle.eval.proofs.JustifiedLaws.{justified}
-use Rattle.model.specs.declared.bounds.Bounds.{Bounds}
-use Rattle.model.specs.declared.tally.Tally.{Tally}
+use Rattle.build.specs.declared.bounds.Bounds.{Bounds}
+use Rattle.build.specs.declared.tally.Tally.{Tally}
 use Rattle.model.specs.declared.outcome.Outcome.{Outcome}
 use Rattle.model.specs.declared.outcome.Outcome.the-variants.{Confirmed, Open}
 use Rattle.model.specs.declared.run.RunAnswer.{RunAnswer}
-use Rattle.model.specs.Label.{labelHas}
-use Rattle.model.specs.Rows.{put, flat, rowAt, Wide, none, more}
-use Rattle.model.specs.Push.{edge}
+use Rattle.build.specs.Label.{labelHas}
+use Rattle.build.specs.Rows.{put, flat, rowAt, Wide, none, more}
+use Rattle.build.specs.Push.{edge}
 use Rattle.model.specs.Closing.{EdgesFit}
-use Rattle.model.specs.Model.{Model, lent, top}
+use Rattle.build.specs.Model.{Model, lent, top}
 use Rattle.model.specs.Phases.{construct, tallyOf, Constructed}
 use Rattle.model.specs.Outcome.{isFails, isUnresolved, outcomeBy, outcomeOf}
 use Rattle.model.specs.Run.{runRefusal, boundsFit, roomFits, Ran, ran, shapeIn, verdictsIn, wordsIn, judged, accepted, unlessRefused, run}
 use Rattle.model.specs.Trust.{Stands, Trusted, Lendable}
-use Rattle.model.proofs.RowLaws.{rows-put, rows-at, length-put, length-flat}
-use Rattle.model.proofs.SeedLaws.{row-member}
+use Rattle.build.proofs.RowLaws.{rows-put, rows-at, length-put, length-flat}
+use Rattle.build.proofs.SeedLaws.{row-member}
 use Rattle.model.proofs.JudgingLaws.{length-words}
 use Rattle.model.proofs.NeedLaws.{BoundsIn, bounds-in, RoomIn, room-in}
 use Rattle.model.proofs.PhaseKeeps.{construct-labels, construct-within, construct-fits, construct-row}
-use Rattle.model.proofs.InternLaws.{member-label}
+use Rattle.build.proofs.InternLaws.{member-label}
 use Rattle.model.proofs.TidyLaws.{Labels, same-classes}
 use Rattle.model.proofs.CloseLaws.{Bound}
 

@@ -16,20 +16,22 @@ use Rattle.deck.specs.Content.{deckOf}
 use Rattle.eval.specs.Lent.{labelWidth}
 use Rattle.eval.proofs.EdgeWalks.{edges-length}
 use Rattle.eval.proofs.Clash.{clash, both-true}
-use Rattle.model.specs.declared.bounds.Bounds.{Bounds}
-use Rattle.model.specs.declared.tally.Tally.{Tally}
-use Rattle.model.specs.declared.tally.Step.{Step}
+use Rattle.build.specs.declared.bounds.Bounds.{Bounds}
+use Rattle.build.specs.declared.tally.Tally.{Tally}
+use Rattle.build.specs.declared.tally.Step.{Step}
 use Rattle.model.specs.declared.still.Still.{Still}
 use Rattle.model.specs.declared.still.Still.the-variants.{Unknown, Others, All}
-use Rattle.model.specs.Model.{Model, Buffers, begun, Prepared, Built}
-use Rattle.model.specs.Exists.{work}
-use Rattle.model.specs.Rounds.{isRule, holdsAtoms, fire, firePair, fireFrom}
+use Rattle.build.specs.Model.{Model, Buffers, begun, Prepared, Built}
+use Rattle.build.specs.Exists.{work}
+use Rattle.model.specs.Rounds.{fire, firePair, fireFrom}
+use Rattle.build.specs.Antecedent.{isRule, holdsAtoms}
 use Rattle.model.specs.Still.{idles, Stands, passes, joined, after, unchanged}
-use Rattle.model.proofs.RowLaws.{length-rows}
-use Rattle.model.proofs.WalkLaws.{walk-keeps}
-use Rattle.model.proofs.BuildLaws.{built-start}
+use Rattle.build.proofs.RowLaws.{length-rows}
+use Rattle.build.proofs.WalkLaws.{walk-keeps}
+use Rattle.build.proofs.BuildLaws.{built-start}
 use Rattle.model.proofs.RoundLaws.{either}
-use Rattle.model.proofs.StillLaws.{modelSize, LiveModel, from-grows, others-still}
+use Rattle.model.proofs.StillLaws.{from-grows, others-still}
+use Rattle.build.proofs.GrowLaws.{modelSize, LiveModel}
 
 -- ---- members by their numbers
 -- the pairs of a member that is passed over go to others, which idle

@@ -23,10 +23,10 @@ use Rattle.eval.proofs.ListLaws.{member-at}
 use Rattle.eval.proofs.EdgeWalks.{noEdge, edges-length, edges-at}
 use Rattle.eval.proofs.IndexLaws.{indexed-kept}
 use Rattle.model.specs.declared.pairs.Found.the-variants.{At, Nothing}
-use Rattle.model.specs.declared.tally.Tally.{Tally}
-use Rattle.model.specs.declared.tally.Step.{Step}
+use Rattle.build.specs.declared.tally.Tally.{Tally}
+use Rattle.build.specs.declared.tally.Step.{Step}
 use Rattle.model.specs.Pairs.{keyOf, linkKey, EndsFit, first, nearerOf, Near}
-use Rattle.model.specs.Push.{State, Left}
+use Rattle.build.specs.Push.{State, Left}
 use Rattle.model.specs.Closing.{EdgesFit, Ready}
 use Rattle.model.proofs.NextLaws.{near-start, near-step, near-first, near-nothing, key-start, key-next, ends-at}
 

@@ -35,20 +35,21 @@ use Rattle.eval.specs.Lent.{bit, labelWidth, memberIn}
 use Rattle.eval.specs.Numbered.{numbered}
 use Rattle.eval.proofs.Clash.{clash}
 use Rattle.eval.proofs.ListLaws.{every-at, none-at, member-at}
-use Rattle.model.specs.declared.bounds.Bounds.{Bounds}
-use Rattle.model.specs.Label.{labelHas}
-use Rattle.model.specs.Walk.{walk}
-use Rattle.model.specs.declared.tally.Tally.{Tally}
-use Rattle.model.specs.Rows.{rowsOf}
-use Rattle.model.specs.Model.{Model, Buffers, Prepared}
-use Rattle.model.specs.Exists.{workOf, workStep, work}
-use Rattle.model.specs.Rounds.{isRule, holdsAtoms, fire, firePair, fireFrom, fireAxiom}
+use Rattle.build.specs.declared.bounds.Bounds.{Bounds}
+use Rattle.build.specs.Label.{labelHas}
+use Rattle.build.specs.Walk.{walk}
+use Rattle.build.specs.declared.tally.Tally.{Tally}
+use Rattle.build.specs.Rows.{rowsOf}
+use Rattle.build.specs.Model.{Model, Buffers, Prepared}
+use Rattle.build.specs.Exists.{workOf, workStep, work}
+use Rattle.model.specs.Rounds.{fire, firePair, fireFrom, fireAxiom}
+use Rattle.build.specs.Antecedent.{isRule, holdsAtoms}
 use Rattle.model.specs.Triggers.{builds, mayAdd, Needs, Idle, Trigger, Entry, Triggers, runAt, stepOf, stepIn, Chain, Steps}
-use Rattle.model.proofs.FloorLaws.{read-is}
-use Rattle.model.proofs.InternLaws.{label-member}
-use Rattle.model.proofs.WalkLaws.{walk-keeps, walk-fixed}
-use Rattle.model.proofs.AntecedentLaws.{holds-and, holds-atomic}
-use Rattle.model.proofs.BuildLaws.{OnModel, built-same}
+use Rattle.build.proofs.FloorLaws.{read-is}
+use Rattle.build.proofs.InternLaws.{label-member}
+use Rattle.build.proofs.WalkLaws.{walk-keeps, walk-fixed}
+use Rattle.build.proofs.AntecedentLaws.{holds-and, holds-atomic}
+use Rattle.build.proofs.BuildLaws.{OnModel, built-same}
 use Rattle.model.proofs.SkipLaws.{walk-skip}
 use Rattle.model.proofs.RoundLaws.{either, pair-same, other-fires}
 

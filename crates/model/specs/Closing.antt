@@ -13,10 +13,10 @@ use Rattle.eval.specs.Edges.{edgesOf, edgeIn}
 use Rattle.eval.specs.Lent.{EdgeFits}
 use Rattle.model.specs.declared.rules.Rule.{Rule}
 use Rattle.model.specs.declared.rules.Rule.the-variants.{Compose, NoRule}
-use Rattle.model.specs.declared.tally.Tally.{Tally}
-use Rattle.model.specs.Push.{State, edge, pushEdge, Room}
+use Rattle.build.specs.declared.tally.Tally.{Tally}
+use Rattle.build.specs.Push.{State, edge, pushEdge, Room}
 use Rattle.model.specs.Rules.{ruleOf}
-use Rattle.model.specs.Walk.{walk}
+use Rattle.build.specs.Walk.{walk}
 
 -- "edges(a)", "edges(b)" and "the test for an edge" are those of section 4, over n elements with these edges; labels do not count
 abbrev pub graph : ℕ → List Edge → Structure

@@ -6,15 +6,15 @@ use lib.ListN.{length, getD, replicate}
 use lib.Dec.{eqb}
 use Rattle.deck.specs.Deck.{Deck, Fact, classCount, factCount, factAt}
 use Rattle.eval.specs.Lists.{range}
-use Rattle.model.specs.declared.bounds.Bounds.{Bounds}
-use Rattle.model.specs.declared.target_label.Target.{Target}
-use Rattle.model.specs.declared.target_label.Target.the-variants.{Row, Delta, NotClosed}
-use Rattle.model.specs.Walk.{walk}
-use Rattle.model.specs.Label.{labelHas, insertBit}
-use Rattle.model.specs.Seed.{rowLabel}
-use Rattle.model.specs.Reasons.{runDelta, labelNotClosed}
-use Rattle.model.specs.Target.{targetOf}
-use Rattle.model.specs.Model.{Model, noteIn, reach}
+use Rattle.build.specs.declared.bounds.Bounds.{Bounds}
+use Rattle.build.specs.declared.target_label.Target.{Target}
+use Rattle.build.specs.declared.target_label.Target.the-variants.{Row, Delta, NotClosed}
+use Rattle.build.specs.Walk.{walk}
+use Rattle.build.specs.Label.{labelHas, insertBit}
+use Rattle.build.specs.Seed.{rowLabel}
+use Rattle.build.specs.Reasons.{runDelta, labelNotClosed}
+use Rattle.build.specs.Target.{targetOf}
+use Rattle.build.specs.Model.{Model, noteIn, reach}
 
 -- one more than the highest element below n that is not taken, or 0; who is taken is kept as the bits of a label
 unfoldable pub highest : List ℕ → ℕ → ℕ

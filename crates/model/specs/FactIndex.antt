@@ -2,16 +2,13 @@
 use Prim.Native.Nat.{ℕ, zero, suc, _+_, _-_, _<_, _≤_}
 use mathlib.Core.Path.{_≡_}
 use mathlib.Core.Bool.{Bool, true, false, cond}
-use mathlib.Core.List.{List, [], _∷_, map}
+use mathlib.Core.List.{List, [], _∷_}
 use lib.ListN.{length, getD, drop}
 use lib.Dec.{eqb}
 use Rattle.deck.specs.Deck.{Deck, Fact, classCount, factCount, factAt}
-use Rattle.eval.specs.Lists.{any}
-use Rattle.eval.specs.declared.edges.Edge.{Edge}
-use Rattle.eval.specs.Edges.{edgesOf}
-use Rattle.model.specs.Label.{labelHas}
-use Rattle.model.specs.Intern.{indexOf}
-use Rattle.model.specs.Seed.{rowLabel}
+use Rattle.build.specs.Label.{labelHas}
+use Rattle.build.specs.Intern.{indexOf}
+use Rattle.build.specs.Seed.{rowLabel}
 
 -- ---- facts by class
 -- one more than the first fact of class k among facts that are numbered from i on, or 0
@@ -34,16 +31,6 @@ pub record Passed (p : ℕ → Bool) (n k j : ℕ) : Type 0 where
   pub on : k ≤ j
   pub most : j ≤ n
   pub none : (i : ℕ) → k ≤ i → i < j → p i ≡ false
-
--- ---- edges of a turn
--- does an edge leave x?
-unfoldable pub leavesAny : List Edge → ℕ → Bool
-leavesAny es x = any (map (λ (f : Edge). eqb (f .from .0) x) es)
-
--- the edges below `since` are older than the turn of x: none leaves x
-pub record Tail (rows : List (List ℕ)) (count since x : ℕ) : Type 0 where
-  pub within : since ≤ count
-  pub none : leavesAny (edgesOf rows since) x ≡ false
 
 -- ---- elements of rows
 -- at a class one more than the element of its row's label, where that is remembered, else 0

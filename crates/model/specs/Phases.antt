@@ -7,14 +7,14 @@ use lib.ListN.{length}
 use lib.Dec.{leb, ltb}
 use Rattle.deck.specs.Deck.{Deck, classCount}
 use Rattle.eval.specs.Edges.{rowOf}
-use Rattle.model.specs.declared.bounds.Bounds.{Bounds}
-use Rattle.model.specs.declared.tally.Tally.{Tally}
-use Rattle.model.specs.Rows.{put, flat}
-use Rattle.model.specs.Floor.{floorLabel}
-use Rattle.model.specs.Seed.{seeds}
-use Rattle.model.specs.Reasons.{axiomsDropped, noted, counted}
+use Rattle.build.specs.declared.bounds.Bounds.{Bounds}
+use Rattle.build.specs.declared.tally.Tally.{Tally}
+use Rattle.build.specs.Rows.{put, flat}
+use Rattle.build.specs.Floor.{floorLabel}
+use Rattle.build.specs.Seed.{seeds}
+use Rattle.build.specs.Reasons.{axiomsDropped, noted, counted}
 use Rattle.model.specs.Closing.{close}
-use Rattle.model.specs.Model.{Model, withState, noteIn, Buffers, top}
+use Rattle.build.specs.Model.{Model, withState, noteIn, Buffers, top}
 use Rattle.model.specs.Expand.{expand}
 use Rattle.model.specs.Rounds.{expandFromAxioms}
 

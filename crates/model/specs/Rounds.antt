@@ -1,35 +1,16 @@
 -- Rounds of rules (`expand_from_axioms`): document 01, section 3.
 use Prim.Native.Nat.{ℕ, zero, suc, _-_}
-use mathlib.Core.Bool.{Bool, true, false, cond, _||_, _&&_}
-use mathlib.Core.List.{List, [], _∷_, map}
+use mathlib.Core.Bool.{cond, _||_, _&&_}
+use mathlib.Core.List.{List, []}
 use lib.ListN.{length, getD}
 use lib.Dec.{eqb}
 use Rattle.deck.specs.Deck.{Deck, Axiom, axiomCount, axiomAt}
-use Rattle.eval.specs.Lists.{every, range}
-use Rattle.model.specs.declared.bounds.Bounds.{Bounds}
-use Rattle.model.specs.Walk.{walk}
-use Rattle.model.specs.Label.{labelHas}
-use Rattle.model.specs.Floor.{universal, requiredAtoms}
-use Rattle.model.specs.Reasons.{boundTripped}
-use Rattle.model.specs.Model.{Model, tripIn}
-use Rattle.model.specs.Exists.{work}
-
--- is there one in the list?
-abbrev pub someIn : List ℕ → Bool
-someIn [] = false
-someIn (x ∷ xs) = true
-
--- "has required atoms"
-unfoldable pub hasAtom : Deck → ℕ → Bool
-hasAtom D c = someIn (requiredAtoms D c)
-
--- "if the antecedent has required atoms or is universal"
-unfoldable pub isRule : Deck → ℕ → Bool
-isRule D c = hasAtom D c || universal D c
-
--- "A rule fires on its antecedent's required atoms only"
-unfoldable pub holdsAtoms : Deck → List ℕ → ℕ → Bool
-holdsAtoms D label c = every (map (labelHas label) (requiredAtoms D c))
+use Rattle.eval.specs.Lists.{range}
+use Rattle.build.specs.declared.bounds.Bounds.{Bounds}
+use Rattle.build.specs.Walk.{walk}
+use Rattle.build.specs.Reasons.{boundTripped}
+use Rattle.build.specs.Model.{Model, tripIn}
+use Rattle.build.specs.Exists.{work}
 
 module _ (D : Deck) (floor : List ℕ) (B : Bounds) where
   -- a rule at element e

@@ -17,11 +17,11 @@ use Rattle.eval.specs.Edges.{rowOf}
 use Rattle.eval.specs.Structure.{Structure}
 use Rattle.eval.specs.Lent.{labelWidth, structureOf}
 use Rattle.eval.specs.Verdict.{wordsOf, verdict}
-use Rattle.model.specs.declared.bounds.Bounds.{Bounds}
-use Rattle.model.specs.declared.tally.Tally.{Tally}
+use Rattle.build.specs.declared.bounds.Bounds.{Bounds}
+use Rattle.build.specs.declared.tally.Tally.{Tally}
 use Rattle.model.specs.declared.run.RunAnswer.{RunAnswer}
-use Rattle.model.specs.Rows.{put, flat}
-use Rattle.model.specs.Model.{Model, top}
+use Rattle.build.specs.Rows.{put, flat}
+use Rattle.build.specs.Model.{Model, top}
 use Rattle.model.specs.Phases.{construct, tallyOf}
 use Rattle.model.specs.Outcome.{outcomeOf}
 

@@ -6,12 +6,12 @@ use mathlib.Core.Path.{_≡_}
 use lib.Dec.{eqb, ltb}
 use Rattle.deck.specs.declared.numbers.ConceptId.{ConceptId}
 use Rattle.deck.specs.Deck.{Deck}
-use Rattle.model.specs.declared.bounds.Bounds.{Bounds}
-use Rattle.model.specs.declared.tally.Tally.{Tally}
+use Rattle.build.specs.declared.bounds.Bounds.{Bounds}
+use Rattle.build.specs.declared.tally.Tally.{Tally}
 use Rattle.model.specs.declared.still.Still.{Still}
 use Rattle.model.specs.declared.still.Still.the-variants.{Unknown, Others, All}
-use Rattle.model.specs.Model.{Model}
-use Rattle.model.specs.Exists.{work}
+use Rattle.build.specs.Model.{Model}
+use Rattle.build.specs.Exists.{work}
 
 -- a member of that number would change nothing
 abbrev pub idles : Still → ℕ → Bool

@@ -7,9 +7,9 @@ use lib.ListN.{length, getD}
 use lib.Dec.{ltb}
 use Rattle.deck.specs.Deck.{Deck, Concept, Role, Axiom, classCount, conceptAt, axiomCount, axiomAt}
 use Rattle.eval.specs.Lent.{bit}
-use Rattle.model.specs.declared.bounds.Bounds.{Bounds}
-use Rattle.model.specs.Label.{labelHas}
-use Rattle.model.specs.Model.{Model}
+use Rattle.build.specs.declared.bounds.Bounds.{Bounds}
+use Rattle.build.specs.Label.{labelHas}
+use Rattle.build.specs.Model.{Model}
 use Rattle.model.specs.Rounds.{fireAxiom}
 
 -- a consequent that may add something: "Other constructs add nothing"

@@ -1,7 +1,7 @@
 // Members of EquivalentClasses that would change nothing at an element.
 ghost use mathlib.Core.Path.{_≡_};
 ghost use Rattle.model.specs.Still.{passes, after, unchanged};
-use crate::tally::Tally;
+use build::tally::Tally;
 use deck::numbers::ConceptId;
 
 // What is known: nothing; that no member of another number would change anything; that none would.

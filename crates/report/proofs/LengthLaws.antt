@@ -13,7 +13,7 @@ use Rattle.deck.specs.Refusal.{numberOf}
 use Rattle.model.specs.declared.outcome.Outcome.{Outcome}
 use Rattle.model.specs.declared.outcome.Outcome.the-variants.{Confirmed, Failed, Open}
 use Rattle.model.specs.declared.run.RunAnswer.{RunAnswer}
-use Rattle.model.specs.declared.tally.Tally.{Tally}
+use Rattle.build.specs.declared.tally.Tally.{Tally}
 use Rattle.model.proofs.RunLaws.{done-passed}
 use Rattle.report.specs.Lines.{digit, spelt, decimal, field, newline, outcomeWord, holdsWord, failsWord, openWord, refusedWord, summaryLine, witness, verdictText, verdictLine, refusalLine}
 use Rattle.report.specs.Text.{programBounds, labelsLent, edgesLent, logLent, verdictsLent, programRun, axiomLine, axiomLines, answerText, programText}

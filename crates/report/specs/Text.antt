@@ -9,11 +9,11 @@ use Rattle.deck.specs.Refusal.{numberOf}
 use Rattle.deck.specs.Deck.{axiomCount}
 use Rattle.deck.specs.Content.{deckOf}
 use Rattle.eval.specs.Lent.{structureOf}
-use Rattle.model.specs.declared.bounds.Bounds.{Bounds}
+use Rattle.build.specs.declared.bounds.Bounds.{Bounds}
 use Rattle.model.specs.declared.outcome.Outcome.the-variants.{Confirmed}
 use Rattle.model.specs.declared.run.RunAnswer.{RunAnswer}
-use Rattle.model.specs.declared.tally.Tally.{Tally}
-use Rattle.model.specs.Rows.{put}
+use Rattle.build.specs.declared.tally.Tally.{Tally}
+use Rattle.build.specs.Rows.{put}
 use Rattle.model.specs.Run.{Ran, run, shapeIn}
 use Rattle.model.specs.Trust.{Trusted}
 use Rattle.report.specs.Lines.{summaryLine, verdictLine, refusalLine}

@@ -6,7 +6,7 @@ ghost use lib.ListN.{length};
 ghost use Rattle.report.specs.Lines.{decimal, field, outcomeWord, witness, verdictText, summaryLine, verdictLine, refusalLine};
 ghost use Rattle.report.specs.Writes.{Wrote};
 use model::outcome::Outcome;
-use model::tally::Tally;
+use build::tally::Tally;
 
 pub fn put(buf: &mut [u8], at: usize, bytes: &[u8]) -> usize
     requires { ⌜ at + length (now bytes) ≤ length (now buf) ⌝ }

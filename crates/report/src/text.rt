@@ -6,7 +6,7 @@ ghost use Rattle.deck.specs.Content.{IsAccepted, deckOf};
 ghost use Rattle.deck.specs.Deck.{axiomCount};
 ghost use Rattle.model.specs.declared.outcome.Outcome.{Outcome};
 ghost use Rattle.model.specs.declared.run.RunAnswer.{RunAnswer};
-ghost use Rattle.model.specs.declared.tally.Tally.{Tally};
+ghost use Rattle.build.specs.declared.tally.Tally.{Tally};
 ghost use Rattle.report.specs.Text.{axiomLine, axiomLines, answerText, programRun, runText, programText};
 ghost use Rattle.report.specs.Text.{labelsLent as Text·labels, edgesLent as Text·edges, logLent as Text·log, verdictsLent as Text·verdicts};
 ghost use Rattle.report.specs.Writes.{Wrote};
@@ -16,7 +16,7 @@ use crate::lines::verdict_line;
 use deck::axioms::axiom_count;
 use deck::refusal::Refusal;
 use deck::refusal::refusal_number;
-use model::bounds::Bounds;
+use build::bounds::Bounds;
 use model::run::RunAnswer;
 use model::run::run;
 

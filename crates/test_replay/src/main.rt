@@ -18,7 +18,7 @@ use data::Asked;
 use libc::STDOUT_FILENO;
 use model::outcome::Outcome;
 use model::run::RunAnswer;
-use model::tally::Tally;
+use build::tally::Tally;
 ghost use mathlib.Core.Path.{_≡_};
 ghost use lib.ListN.{length};
 

@@ -22,7 +22,7 @@ use deck::refusal::refusal_word;
 use libc::STDOUT_FILENO;
 use model::outcome::Outcome;
 use model::run::RunAnswer;
-use model::tally::Tally;
+use build::tally::Tally;
 ghost use mathlib.Core.Path.{_≡_};
 ghost use lib.ListN.{length};
 

@@ -21,9 +21,9 @@ use borrow.Table.Copies.{Cp, cStruct}
 use borrow.Table.Row.{Row}
 use borrow.Table.Reads.{ToRoom, ReadsAs}
 use borrow.Table.Rows.{whole}
-use Rattle.model.specs.declared.tally.Tally.{Tally}
-use Rattle.model.proofs.tally.Tally as S
-use Rattle.model.proofs.tally.Tally.Laws as L
+use Rattle.build.specs.declared.tally.Tally.{Tally}
+use Rattle.build.proofs.tally.Tally as S
+use Rattle.build.proofs.tally.Tally.Laws as L
 
 abbrev pub R : RattleType
 R = S.the-row

@@ -1,6 +1,6 @@
 use borrow.Author.Needs.{needs}
 use Rattle.model.proofs.EndsLaws.{Adding, adding-start, adding-done, adding-stop, adding-next}
-use Rattle.model.proofs.PushLaws.{left-room}
+use Rattle.build.proofs.PushLaws.{left-room}
 use Rattle.model.specs.Ends.{isNew}
 use mathlib.Core.Path.{refl, _∙_}
 use Prim.Native.Nat.{_-_}

@@ -1,6 +1,6 @@
 use mathlib.Core.Path.{sym, _∙_}
 use Rattle.deck.proofs.SoundLaws.{sound}
-use Rattle.model.proofs.PushLaws.{left-is, left-same}
+use Rattle.build.proofs.PushLaws.{left-is, left-same}
 use Rattle.model.proofs.RuleLaws.{rule-fits-as}
 use Rattle.model.proofs.CloseLaws.{axiom-by, axiom-none}
 use borrow.Author.Needs.{needs}

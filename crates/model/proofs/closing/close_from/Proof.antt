@@ -1,7 +1,7 @@
 use borrow.Author.Needs.{needs}
 use Rattle.model.proofs.EndsLaws.{from-ends}
 use Rattle.model.proofs.SweepLaws.{ready-room}
-use Rattle.model.proofs.PushLaws.{left-is}
+use Rattle.build.proofs.PushLaws.{left-is}
 use Rattle.model.specs.Pairs.{pairOf}
 use Rattle.deck.proofs.SoundLaws.{sound}
 use mathlib.Core.Path.{refl}

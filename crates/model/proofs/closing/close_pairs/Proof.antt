@@ -3,7 +3,7 @@ use Rattle.model.proofs.SweepLaws.{indexed-left, ready-room, ready-from
 use Rattle.model.proofs.GoingLaws.{Going, going-start, going-done, going-stop, going-next, going-past, going-hit, going-below}
 use Rattle.model.proofs.KeyLaws.{rule-keys, fits-ends}
 use Rattle.model.proofs.CloseLaws.{from-stuck, from-same, from-fits, linked-fits, ready-next}
-use Rattle.model.proofs.PushLaws.{left-is}
+use Rattle.build.proofs.PushLaws.{left-is}
 use Rattle.model.specs.Closing.{closeFrom, Ready}
 use Rattle.model.specs.Pairs.{pairOf}
 use Rattle.eval.specs.Index.{Indexed}

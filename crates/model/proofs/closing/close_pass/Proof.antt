@@ -9,10 +9,10 @@ use Rattle.deck.specs.Deck.{Axiom}
 use Rattle.deck.proofs.SoundLaws.{sound}
 use Rattle.eval.proofs.Walks.{list-step}
 use Rattle.model.specs.Closing.{closeAxiom, closePass, Ready}
-use Rattle.model.proofs.PushLaws.{left-is}
+use Rattle.build.proofs.PushLaws.{left-is}
 use Rattle.model.proofs.RuleLaws.{rule-fits-at}
 use Rattle.model.proofs.CloseLaws.{pass-in-order, axiom-stuck, axiom-same, axiom-fits, ready-next}
-use Rattle.model.proofs.WalkLaws.{OnEdges, on-start, on-done, on-stop, on-next}
+use Rattle.build.proofs.WalkLaws.{OnEdges, on-start, on-done, on-stop, on-next}
 use Rattle.model.proofs.closing.close_pass.Statement.{statement}
 use Rattle.model.proofs.closing.close_pass.Tie as tie
 use Rattle.model.proofs.closing.close_pass.Reads as reads

@@ -4,7 +4,7 @@ use mathlib.Core.Path.{_∙_}
 use Rattle.deck.specs.Content.{deckOf}
 use Rattle.deck.proofs.SoundLaws.{sound}
 use Rattle.model.specs.Closing.{Ready}
-use Rattle.model.proofs.PushLaws.{left-is}
+use Rattle.build.proofs.PushLaws.{left-is}
 use Rattle.model.proofs.RuleLaws.{rule-fits-in}
 use Rattle.model.proofs.CloseLaws.{pass-same, pass-fits, ready-next}
 use Rattle.model.proofs.Passes.{Turning, turning-start, turning-trip, turning-still, turning-more}

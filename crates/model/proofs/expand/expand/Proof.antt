@@ -1,7 +1,7 @@
 use borrow.Author.Needs.{needs}
 use native.Mathlib.Omega.{arith}
 use mathlib.Core.Path.{sym, _∙_}
-use Rattle.model.proofs.BuildLaws.{built-is, built-same}
+use Rattle.build.proofs.BuildLaws.{built-is, built-same}
 use Rattle.model.proofs.FactIndexLaws.{turns-idle}
 use Rattle.model.proofs.expand.expand.Statement.{statement}
 use Rattle.model.proofs.expand.expand.Tie as tie

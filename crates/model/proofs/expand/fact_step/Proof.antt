@@ -1,7 +1,7 @@
 use borrow.Author.Needs.{needs}
 use mathlib.Core.Path.{refl, sym, ap, _∙_}
 use Rattle.deck.specs.Deck.{Fact}
-use Rattle.model.proofs.BuildLaws.{built-is, built-same}
+use Rattle.build.proofs.BuildLaws.{built-is, built-same}
 use Rattle.model.proofs.ExpandLaws.{fact-other, fact-own}
 use Rattle.model.proofs.expand.fact_step.Statement.{statement}
 use Rattle.model.proofs.expand.fact_step.Tie as tie

@@ -2,8 +2,8 @@ use borrow.Author.Needs.{needs}
 use mathlib.Core.Path.{ap, _∙_}
 use mathlib.Core.Logic.{⊎-elim}
 use lib.ListN.{length}
-use Rattle.model.specs.Reasons.{labelNotClosed}
-use Rattle.model.proofs.BuildLaws.{built-is, built-note, built-trans}
+use Rattle.build.specs.Reasons.{labelNotClosed}
+use Rattle.build.proofs.BuildLaws.{built-is, built-note, built-trans}
 use Rattle.model.proofs.AimLaws.{aimed-row, aimed-delta, aimed-ready}
 use Rattle.model.proofs.expand.link_target.Statement.{statement}
 use Rattle.model.proofs.expand.link_target.Tie as tie

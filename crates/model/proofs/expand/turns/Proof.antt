@@ -4,14 +4,15 @@ use Prim.Native.Nat.{_≤_}
 use mathlib.Core.Path.{_≡_, refl, sym, ap, _∙_}
 use lib.ListN.{length}
 use Rattle.eval.specs.Lent.{labelWidth}
-use Rattle.model.specs.Rows.{rowsOf}
+use Rattle.build.specs.Rows.{rowsOf}
 use Rattle.model.specs.FactIndex.{Recalled}
 use Rattle.deck.specs.Content.{deckOf}
 use Rattle.eval.specs.Edges.{edgesOf}
 use Rattle.model.specs.Expand.{highest}
-use Rattle.model.specs.Model.{Model, lent, Prepared}
-use Rattle.model.proofs.BuildLaws.{built-size, built-start, prepared-after}
-use Rattle.model.proofs.TailLaws.{Since, since-start, since-tail, since-next, next-untaken}
+use Rattle.build.specs.Model.{Model, lent, Prepared}
+use Rattle.build.proofs.BuildLaws.{built-size, built-start, prepared-after}
+use Rattle.build.proofs.TailLaws.{Since}
+use Rattle.model.proofs.ApartLaws.{since-start, since-tail, since-next, next-untaken}
 use Rattle.model.proofs.CursorLaws.{highest-resume, resume-below}
 use Rattle.model.proofs.ExpandLaws.{untaken, Taking, taking-start, taking-done, taking-below, taking-less, taking-stop, taking-next}
 use Rattle.model.proofs.expand.turns.Statement.{statement}

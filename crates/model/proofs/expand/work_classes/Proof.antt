@@ -4,19 +4,19 @@ use Prim.Native.Nat.{_+_, _-_, _≤_}
 use mathlib.Core.Path.{_≡_, refl, sym, _∙_}
 use lib.ListN.{length}
 use Rattle.eval.specs.Lent.{labelWidth}
-use Rattle.model.specs.Rows.{rowsOf}
+use Rattle.build.specs.Rows.{rowsOf}
 use Rattle.model.specs.FactIndex.{Recalled}
 use denote.Ref.{now}
 use Rattle.deck.specs.Content.{deckOf}
 use Rattle.deck.specs.Deck.{classCount}
 use Rattle.eval.specs.Lists.{range}
 use Rattle.eval.proofs.Walks.{range-step, range-end}
-use Rattle.model.specs.Model.{lent, Prepared}
+use Rattle.build.specs.Model.{lent, Prepared}
 use Rattle.model.specs.Expand.{classStep, workClasses}
-use Rattle.model.proofs.BuildLaws.{built-size, prepared-after, all-fit, OnModel, from-zero, model-start, model-done, model-stop, model-next}
+use Rattle.build.proofs.BuildLaws.{built-size, prepared-after, all-fit, OnModel, from-zero, model-start, model-done, model-stop, model-next}
 use Rattle.model.proofs.ExpandLaws.{class-stuck}
 use Rattle.model.proofs.PassLaws.{passed-over}
-use Rattle.model.proofs.TailLaws.{tail-after}
+use Rattle.build.proofs.TailLaws.{tail-after}
 use Rattle.model.proofs.expand.work_classes.Statement.{statement}
 use Rattle.model.proofs.expand.work_classes.Tie as tie
 use Rattle.model.proofs.expand.work_classes.Reads as reads

@@ -4,18 +4,18 @@ use Prim.Native.Nat.{_+_, _-_, _<_, _≤_}
 use mathlib.Core.Path.{_≡_, refl, sym, _∙_}
 use lib.ListN.{length}
 use Rattle.eval.specs.Lent.{labelWidth}
-use Rattle.model.specs.Rows.{rowsOf}
+use Rattle.build.specs.Rows.{rowsOf}
 use Rattle.model.specs.FactIndex.{Recalled}
 use denote.Ref.{now}
 use Rattle.deck.specs.Content.{deckOf}
 use Rattle.deck.specs.Deck.{factCount, factAt}
 use Rattle.deck.proofs.SoundLaws.{limited}
-use Rattle.model.specs.Model.{lent, Prepared}
+use Rattle.build.specs.Model.{lent, Prepared}
 use Rattle.model.specs.Expand.{factStep}
-use Rattle.model.proofs.BuildLaws.{built-size, prepared-after, OnModel, model-start, model-done, model-stop, model-next}
+use Rattle.build.proofs.BuildLaws.{built-size, prepared-after, OnModel, model-start, model-done, model-stop, model-next}
 use Rattle.model.proofs.ExpandLaws.{fact-stuck, facts-in-order}
 use Rattle.model.proofs.FactIndexLaws.{restFacts, leftFacts, facts-going, rest-some, rest-none, left-less, link-next}
-use Rattle.model.proofs.TailLaws.{tail-after}
+use Rattle.build.proofs.TailLaws.{tail-after}
 use Rattle.model.proofs.expand.work_facts.Statement.{statement}
 use Rattle.model.proofs.expand.work_facts.Tie as tie
 use Rattle.model.proofs.expand.work_facts.Reads as reads

@@ -1,11 +1,11 @@
 use Rattle.model.proofs.Lent.At_Tally as elem-Tally
-use Rattle.model.proofs.tally.Step
-use Rattle.model.proofs.tally.Step.Laws as Laws'
+use Rattle.build.proofs.tally.Step
+use Rattle.build.proofs.tally.Step.Laws as Laws'
 use borrow.Author.Called
 use mir.Syntax
 use Prim.Native.Nat.{ℕ}
-use Rattle.model.proofs.bounds.Bounds.{the-type}
-use Rattle.model.proofs.bounds.Bounds.Laws.{the-copy, the-laws, the-plain}
+use Rattle.build.proofs.bounds.Bounds.{the-type}
+use Rattle.build.proofs.bounds.Bounds.Laws.{the-copy, the-laws, the-plain}
 use borrow.Author.Called.{Called, called}
 use borrow.Fn.Any.{wantQ}
 use borrow.Fn.Call.{callB, sub-id}
@@ -58,10 +58,10 @@ abbrev n0 : List ℕ
 n0 = 0 ∷ 1 ∷ 7 ∷ 8 ∷ 9 ∷ 10 ∷ []
 
 abbrev n1 : List ℕ
-n1 = 109 ∷ 111 ∷ 100 ∷ 101 ∷ 108 ∷ 58 ∷ 58 ∷ 116 ∷ 97 ∷ 108 ∷ 108 ∷ 121 ∷ 58 ∷ 58 ∷ 83 ∷ 116 ∷ 101 ∷ 112 ∷ []
+n1 = 98 ∷ 117 ∷ 105 ∷ 108 ∷ 100 ∷ 58 ∷ 58 ∷ 116 ∷ 97 ∷ 108 ∷ 108 ∷ 121 ∷ 58 ∷ 58 ∷ 83 ∷ 116 ∷ 101 ∷ 112 ∷ []
 
 abbrev n2 : List ℕ
-n2 = 109 ∷ 111 ∷ 100 ∷ 101 ∷ 108 ∷ 58 ∷ 58 ∷ 98 ∷ 111 ∷ 117 ∷ 110 ∷ 100 ∷ 115 ∷ 58 ∷ 58 ∷ 66 ∷ 111 ∷ 117 ∷ 110 ∷ 100 ∷ 115 ∷ []
+n2 = 98 ∷ 117 ∷ 105 ∷ 108 ∷ 100 ∷ 58 ∷ 58 ∷ 98 ∷ 111 ∷ 117 ∷ 110 ∷ 100 ∷ 115 ∷ 58 ∷ 58 ∷ 66 ∷ 111 ∷ 117 ∷ 110 ∷ 100 ∷ 115 ∷ []
 
 abbrev n3 : List ℕ
 n3 = 38 ∷ 91 ∷ 93 ∷ []

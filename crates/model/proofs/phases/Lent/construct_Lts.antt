@@ -2,8 +2,8 @@ use Rattle.model.proofs.Lent.At_Tally as elem-Tally
 use borrow.Author.Called
 use mir.Syntax
 use Prim.Native.Nat.{ℕ}
-use Rattle.model.proofs.bounds.Bounds.{the-type}
-use Rattle.model.proofs.bounds.Bounds.Laws.{the-copy, the-laws, the-plain}
+use Rattle.build.proofs.bounds.Bounds.{the-type}
+use Rattle.build.proofs.bounds.Bounds.Laws.{the-copy, the-laws, the-plain}
 use borrow.Author.Called.{Called, called}
 use borrow.Fn.Any.{wantQ}
 use borrow.Fn.Call.{callB, sub-id}
@@ -69,7 +69,7 @@ abbrev n3 : List ℕ
 n3 = 0 ∷ 7 ∷ 8 ∷ 9 ∷ 10 ∷ []
 
 abbrev n4 : List ℕ
-n4 = 109 ∷ 111 ∷ 100 ∷ 101 ∷ 108 ∷ 58 ∷ 58 ∷ 98 ∷ 111 ∷ 117 ∷ 110 ∷ 100 ∷ 115 ∷ 58 ∷ 58 ∷ 66 ∷ 111 ∷ 117 ∷ 110 ∷ 100 ∷ 115 ∷ []
+n4 = 98 ∷ 117 ∷ 105 ∷ 108 ∷ 100 ∷ 58 ∷ 58 ∷ 98 ∷ 111 ∷ 117 ∷ 110 ∷ 100 ∷ 115 ∷ 58 ∷ 58 ∷ 66 ∷ 111 ∷ 117 ∷ 110 ∷ 100 ∷ 115 ∷ []
 
 abbrev n5 : List ℕ
 n5 = 38 ∷ 91 ∷ 93 ∷ []

@@ -1,6 +1,6 @@
 use Rattle.model.proofs.Lent.At_Tally as elem-Tally
-use Rattle.model.proofs.bounds.Bounds
-use Rattle.model.proofs.bounds.Bounds.Laws
+use Rattle.build.proofs.bounds.Bounds
+use Rattle.build.proofs.bounds.Bounds.Laws
 use borrow.Fn.Kinds
 use borrow.Kind.MutSlice
 use borrow.Kind.ShrSlice

@@ -2,8 +2,8 @@ use Rattle.model.proofs.Lent.At_Tally as elem-Tally
 use borrow.Author.Called
 use mir.Syntax
 use Prim.Native.Nat.{_<_, _≤_, ℕ}
-use Rattle.model.proofs.bounds.Bounds.{the-type}
-use Rattle.model.proofs.bounds.Bounds.Laws.{the-copy, the-laws, the-plain}
+use Rattle.build.proofs.bounds.Bounds.{the-type}
+use Rattle.build.proofs.bounds.Bounds.Laws.{the-copy, the-laws, the-plain}
 use borrow.Author.Called.{Called, called}
 use borrow.Author.Tests.{ltb-false, ltb-true}
 use borrow.Fn.Any.{wantQ}
@@ -65,7 +65,7 @@ abbrev n2 : List ℕ
 n2 = 0 ∷ 17 ∷ 18 ∷ 19 ∷ []
 
 abbrev n3 : List ℕ
-n3 = 109 ∷ 111 ∷ 100 ∷ 101 ∷ 108 ∷ 58 ∷ 58 ∷ 98 ∷ 111 ∷ 117 ∷ 110 ∷ 100 ∷ 115 ∷ 58 ∷ 58 ∷ 66 ∷ 111 ∷ 117 ∷ 110 ∷ 100 ∷ 115 ∷ []
+n3 = 98 ∷ 117 ∷ 105 ∷ 108 ∷ 100 ∷ 58 ∷ 58 ∷ 98 ∷ 111 ∷ 117 ∷ 110 ∷ 100 ∷ 115 ∷ 58 ∷ 58 ∷ 66 ∷ 111 ∷ 117 ∷ 110 ∷ 100 ∷ 115 ∷ []
 
 abbrev n4 : List ℕ
 n4 = 38 ∷ 91 ∷ 93 ∷ []

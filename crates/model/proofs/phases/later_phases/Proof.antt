@@ -1,6 +1,6 @@
 mod Tie
 use mathlib.Core.Path.{refl, sym, _∙_}
-use Rattle.model.proofs.BuildLaws.{built-is, built-same, built-tripped, prepared-after}
+use Rattle.build.proofs.BuildLaws.{built-is, built-same, built-tripped, prepared-after}
 use Rattle.model.proofs.PhaseLaws.{later-one, later-two, two-trips, later-three, three-trips, later-four, built-two, built-three, built-four, built-flag, ready-three}
 use Rattle.model.proofs.phases.later_phases.Statement.{statement}
 use Rattle.model.proofs.phases.later_phases.Proof.Tie as tie

@@ -3,9 +3,9 @@ use native.Mathlib.Omega.{arith}
 use Prim.Native.Nat.{_-_, _≤_}
 use mathlib.Core.Path.{_≡_, refl, _∙_}
 use lib.ListN.{length}
-use Rattle.model.specs.Rows.{rowsOf}
-use Rattle.model.specs.Prints.{Chained}
-use Rattle.model.proofs.PrintLaws.{chained-row}
+use Rattle.build.specs.Rows.{rowsOf}
+use Rattle.build.specs.Prints.{Chained}
+use Rattle.build.proofs.PrintLaws.{chained-row}
 use Rattle.model.proofs.recall.chain_labels.Statement.{statement}
 use Rattle.model.proofs.recall.chain_labels.Tie as tie
 use Rattle.model.proofs.recall.chain_labels.Reads as reads

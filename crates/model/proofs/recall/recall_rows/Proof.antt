@@ -1,7 +1,7 @@
 use native.Mathlib.Omega.{arith}
 use Prim.Native.Nat.{ℕ}
 use lib.ListN.{length-replicate}
-use Rattle.model.proofs.PrintLaws.{chained-zeros}
+use Rattle.build.proofs.PrintLaws.{chained-zeros}
 use borrow.Author.Needs.{needs}
 use Rattle.model.proofs.recall.recall_rows.Statement.{statement}
 use Rattle.model.proofs.recall.recall_rows.Tie as tie

@@ -1,4 +1,4 @@
-use Rattle.model.proofs.BuildLaws.{all-fit}
+use Rattle.build.proofs.BuildLaws.{all-fit}
 use Rattle.model.proofs.RoundLaws.{fire-yes, fire-no}
 use borrow.Author.Needs.{needs}
 use Rattle.model.proofs.rounds.fire.Statement.{statement}

@@ -1,6 +1,6 @@
 use Rattle.deck.proofs.MatchLaws.{at-least}
-use Rattle.model.proofs.FloorLaws.{axiom-fits}
-use Rattle.model.proofs.BuildLaws.{built-is, built-same}
+use Rattle.build.proofs.FloorLaws.{axiom-fits}
+use Rattle.build.proofs.BuildLaws.{built-is, built-same}
 use Rattle.model.proofs.RoundLaws.{sub-class-fires, equivalent-fires, other-fires}
 use borrow.Author.Needs.{needs}
 use Rattle.model.proofs.rounds.fire_axiom.Statement.{statement}

@@ -1,9 +1,9 @@
 use Rattle.model.proofs.StandLaws.{stands-none}
 use Rattle.model.proofs.RoundLaws.{labels-size, from-stuck}
-use Rattle.model.proofs.BuildLaws.{built-trans, prepared-after, OnModel, model-start, model-done, model-stop, model-next}
+use Rattle.build.proofs.BuildLaws.{built-trans, prepared-after, OnModel, model-start, model-done, model-stop, model-next}
 use Rattle.model.specs.Still.{Stands}
 use Rattle.model.specs.Rounds.{fireFrom, fireAxiom}
-use Rattle.model.specs.Model.{lent, begun}
+use Rattle.build.specs.Model.{lent, begun}
 use Rattle.eval.proofs.Walks.{list-step}
 use Rattle.deck.proofs.TableLaws.{list-length}
 use Rattle.deck.specs.Reads.{listOf}

@@ -5,8 +5,8 @@ use native.Mathlib.Omega.{arith}
 use denote.Ref.{now}
 use lib.ListN.{drop, drop-of-length-le}
 use Rattle.deck.specs.Content.{deckOf}
-use Rattle.model.specs.Model.{lent}
-use Rattle.model.proofs.BuildLaws.{built-trans, prepared-after, OnModel, model-start, model-done, model-stop, model-next}
+use Rattle.build.specs.Model.{lent}
+use Rattle.build.proofs.BuildLaws.{built-trans, prepared-after, OnModel, model-start, model-done, model-stop, model-next}
 use Rattle.model.proofs.RoundLaws.{labels-size, pair-stuck}
 use Rattle.deck.specs.Reads.{listOf}
 use Rattle.deck.proofs.TableLaws.{list-length}

@@ -1,6 +1,6 @@
 use Rattle.model.proofs.StandLaws.{from-passed, stands-after}
 use Rattle.model.proofs.TriggerLaws.{from-idle}
-use Rattle.model.proofs.BuildLaws.{built-is, built-same, all-fit}
+use Rattle.build.proofs.BuildLaws.{built-is, built-same, all-fit}
 use mathlib.Core.Path.{sym, _∙_}
 use borrow.Author.Needs.{needs}
 use Rattle.model.proofs.rounds.fire_member.Statement.{statement}

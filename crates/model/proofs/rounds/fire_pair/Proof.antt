@@ -1,5 +1,5 @@
 use mathlib.Core.Path.{sym, _∙_}
-use Rattle.model.proofs.BuildLaws.{built-is, built-same}
+use Rattle.build.proofs.BuildLaws.{built-is, built-same}
 use Rattle.model.proofs.RoundLaws.{pair-same, pair-differs}
 use Rattle.model.proofs.TriggerLaws.{pair-idle}
 use borrow.Author.Needs.{needs}

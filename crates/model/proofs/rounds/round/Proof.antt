@@ -3,8 +3,8 @@ use Prim.Native.Nat.{_-_, _≤_}
 use mathlib.Core.Path.{refl, sym, _∙_}
 use native.Mathlib.Omega.{arith}
 use Rattle.deck.specs.Content.{deckOf}
-use Rattle.model.specs.Model.{lent}
-use Rattle.model.proofs.BuildLaws.{built-trans, prepared-after, OnModel, model-start, model-done, model-stop, model-next, built-is}
+use Rattle.build.specs.Model.{lent}
+use Rattle.build.proofs.BuildLaws.{built-trans, prepared-after, OnModel, model-start, model-done, model-stop, model-next, built-is}
 use Rattle.model.proofs.RoundLaws.{labels-size, visit-stuck, round-walk}
 use Rattle.eval.specs.Lists.{range}
 use Rattle.eval.proofs.Walks.{range-step, range-end}

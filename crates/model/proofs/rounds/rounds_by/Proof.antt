@@ -2,9 +2,9 @@ use Prim.Native.Nat.{_-_}
 use mathlib.Core.Path.{refl, sym, _∙_}
 use native.Mathlib.Omega.{arith}
 use Rattle.deck.specs.Content.{deckOf}
-use Rattle.model.specs.Model.{lent}
+use Rattle.build.specs.Model.{lent}
 use Rattle.model.specs.Rounds.{expandFromAxioms}
-use Rattle.model.proofs.BuildLaws.{built-trans, built-trip, prepared-after}
+use Rattle.build.proofs.BuildLaws.{built-trans, built-trip, prepared-after}
 use Rattle.model.proofs.RoundLaws.{labels-size, Rounding, rounding-start, rounding-trip, rounding-still, rounding-last, rounding-more}
 use Rattle.model.proofs.rounds.rounds_by.Statement.{statement}
 use Rattle.model.proofs.rounds.rounds_by.Tie as tie

@@ -7,9 +7,9 @@ use lib.ListN.{drop, drop-of-length-le}
 use Rattle.deck.specs.Content.{deckOf}
 use Rattle.deck.specs.Deck.{Axiom}
 use Rattle.eval.proofs.Walks.{list-step}
-use Rattle.model.specs.Model.{lent}
+use Rattle.build.specs.Model.{lent}
 use Rattle.model.specs.Rounds.{fireAxiom}
-use Rattle.model.proofs.BuildLaws.{all-fit, built-trans, prepared-after, OnModel, model-done, model-stop, model-next}
+use Rattle.build.proofs.BuildLaws.{all-fit, built-trans, prepared-after, OnModel, model-done, model-stop, model-next}
 use Rattle.model.proofs.RoundLaws.{labels-size, axiom-stuck, visit-in-order}
 use Rattle.model.proofs.TriggerLaws.{steps, pass-first, pass-over}
 use Rattle.model.proofs.rounds.visit.Statement.{statement}

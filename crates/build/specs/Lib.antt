@@ -1,0 +1,13 @@
+pub mod Label
+pub mod Rows
+pub mod Intern
+pub mod Prints
+pub mod Floor
+pub mod Seed
+pub mod Reasons
+pub mod Push
+pub mod Walk
+pub mod Target
+pub mod Model
+pub mod Exists
+pub mod Antecedent
