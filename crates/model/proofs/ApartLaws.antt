@@ -24,7 +24,7 @@ use Rattle.build.specs.Target.{targetOf}
 use Rattle.build.specs.Push.{State, edge, added, pushEdge, leavesAny, Tail}
 use Rattle.build.specs.Model.{Model, noteIn, tripState, reach}
 use Rattle.model.specs.Expand.{highest, linkTarget, workFact, factStep, workFacts, classStep, workClasses}
-use Rattle.build.proofs.TailLaws.{or-both, any-append}
+use Rattle.build.proofs.TailLaws.{or-both, any-append, tail-none}
 use Rattle.build.proofs.InternLaws.{by-cond}
 use Rattle.build.proofs.WalkLaws.{walk-keeps}
 use Rattle.build.proofs.MemberLaws.{has-insert}

@@ -20,7 +20,7 @@ module _ (D : Deck) (floor : List ℕ) (B : Bounds) where
   module _ (e : ℕ) where
     fire-grows : (ante sup : ℕ) (m : Model) → Builds m (fire D floor B e ante sup m)
     unfolding fire
-    fire-grows ante sup m = by-cond (Builds m) (holdsAtoms D (getD (m .labels) e []) ante && isRule D ante) (work D floor B sup e m) m (work-grows sup e m) (grows-same m)
+    fire-grows ante sup m = by-cond (Builds m) (holdsAtoms D (getD (m .labels) e []) ante && isRule D ante) (work D floor B sup e m) m (work-grows D floor B sup e m) (grows-same m)
 
     pair-grows : (a b : ℕ) (m : Model) → Builds m (firePair D floor B e a b m)
     unfolding firePair

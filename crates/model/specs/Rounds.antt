@@ -10,6 +10,7 @@ use Rattle.build.specs.declared.bounds.Bounds.{Bounds}
 use Rattle.build.specs.Walk.{walk}
 use Rattle.build.specs.Reasons.{boundTripped}
 use Rattle.build.specs.Model.{Model, tripIn}
+use Rattle.build.specs.Antecedent.{isRule, holdsAtoms}
 use Rattle.build.specs.Exists.{work}
 
 module _ (D : Deck) (floor : List ℕ) (B : Bounds) where

@@ -11,8 +11,7 @@ use Rattle.eval.specs.Edges.{edgesOf}
 use Rattle.model.specs.Expand.{highest}
 use Rattle.build.specs.Model.{Model, lent, Prepared}
 use Rattle.build.proofs.BuildLaws.{built-size, built-start, prepared-after}
-use Rattle.build.proofs.TailLaws.{Since}
-use Rattle.model.proofs.ApartLaws.{since-start, since-tail, since-next, next-untaken}
+use Rattle.model.proofs.ApartLaws.{Since, since-start, since-tail, since-next, next-untaken}
 use Rattle.model.proofs.CursorLaws.{highest-resume, resume-below}
 use Rattle.model.proofs.ExpandLaws.{untaken, Taking, taking-start, taking-done, taking-below, taking-less, taking-stop, taking-next}
 use Rattle.model.proofs.expand.turns.Statement.{statement}

@@ -229,7 +229,7 @@ abbrev b3 : Body
 b3 = assign (place 12 []) (aggregate ((copy (place 11 [])) ∷ (copy (place 4 ((field 1) ∷ []))) ∷ []))
 
 abbrev b4 : Body
-b4 = call "model::seed::seed" ((copy (place 1 [])) ∷ (copy (place 2 [])) ∷ (copy (place 10 [])) ∷ (copy (place 12 [])) ∷ []) (place 6 [])
+b4 = call "build::seed::seed" ((copy (place 1 [])) ∷ (copy (place 2 [])) ∷ (copy (place 10 [])) ∷ (copy (place 12 [])) ∷ []) (place 6 [])
 
 abbrev b5 : Body
 b5 = assign (place 7 []) (rvOpd (copy (place 5 ((deref elem-Tally.σ) ∷ []))))
@@ -451,7 +451,7 @@ module _ (claims· : Claims) where
   module _ (Pre· : (κs : Lfts 5) → Dens κs ps → Type 0) (Post· : (κs : Lfts 5) → (a : Dens κs ps) → Plain 5 ps r κs) where
     module _ (M : Type 1) where
       abbrev pub Closed : Type 2
-      Closed = (𝓤 : URA M) (H : Heap 𝓤) (A : Atoms 𝓤) (W : Given 𝓤 H A) (𝓣 : Tables 𝓤 H) (known0 : Known 𝓤 H A W 𝓣 4 ps·0 r·0 (claims· .0) (claims· .1) "model::seed::seed") (known1 : Known 𝓤 H A W 𝓣 0 ps·1 r·1 (claims· .2) (claims· .3) "model::phases::with_elements") → Triple 𝓤 (WpFn 𝓤 H (𝓣 .C) (𝓣 .Λ) (fnOf 5 ps r xs m hs body)) (plainOf 𝓤 H A 5 ps r Pre· Post·)
+      Closed = (𝓤 : URA M) (H : Heap 𝓤) (A : Atoms 𝓤) (W : Given 𝓤 H A) (𝓣 : Tables 𝓤 H) (known0 : Known 𝓤 H A W 𝓣 4 ps·0 r·0 (claims· .0) (claims· .1) "build::seed::seed") (known1 : Known 𝓤 H A W 𝓣 0 ps·1 r·1 (claims· .2) (claims· .3) "model::phases::with_elements") → Triple 𝓤 (WpFn 𝓤 H (𝓣 .C) (𝓣 .Λ) (fnOf 5 ps r xs m hs body)) (plainOf 𝓤 H A 5 ps r Pre· Post·)
 
     module _ where
       abbrev at0 : TF T27 O0
@@ -540,7 +540,7 @@ module _ (claims· : Claims) where
 
       module _ {M : Type 1} (𝓤 : URA M) (H : Heap 𝓤) (A : Atoms 𝓤) (W : Given 𝓤 H A) (𝓣 : Tables 𝓤 H) where
         abbrev Knowns : Type 1
-        Knowns = Known 𝓤 H A W 𝓣 4 ps·0 r·0 (claims· .0) (claims· .1) "model::seed::seed" × Known 𝓤 H A W 𝓣 0 ps·1 r·1 (claims· .2) (claims· .3) "model::phases::with_elements"
+        Knowns = Known 𝓤 H A W 𝓣 4 ps·0 r·0 (claims· .0) (claims· .1) "build::seed::seed" × Known 𝓤 H A W 𝓣 0 ps·1 r·1 (claims· .2) (claims· .3) "model::phases::with_elements"
 
       module _ (κs : Lfts 5) (qs : Shares 5) where
         abbrev e25 : Entry
@@ -746,7 +746,7 @@ module _ (claims· : Claims) where
           d15 = g-pre 𝓤 H A W 𝓣 E G12 G13 b13 Δ0 (λ Ψ. Ψ) at14 (g-end 𝓤 H A W E G12 5 refl) d14
 
           d16 : Typed 𝓤 H A 𝓣 E G11 b14 Δ0 at16
-          d16 = s-seq 𝓤 H A W 𝓣 E G11 G12 b4 b13 Δ0 (both s10) at15 (t-call-plain 𝓤 H A W 𝓣 4 ps·0 r·0 (claims· .0) (claims· .1) "model::seed::seed" (known .0) E (λ pos β. β) G11 (record { pos = 1; ty = tyRef (named 0) imm y2; ref = λ x. x }, (record { pos = 2; ty = tyRef (named 1) imm y1; ref = λ x. x }, (record { pos = 10; ty = tyRef erased mut y1; ref = λ x. x }, (record { pos = 12; ty = tyRef erased mut y1; ref = λ x. x }, tt)))) 6 n0 (sub-id 𝓤 H A W (G11 .slots)) (spares-sslice 𝓤 H A W (rtF (fInt Syntax.w8)) (tyRef (named 0) imm y2) 0, reads-sslice 𝓤 H A W (rtF (fInt Syntax.w8)) (tyRef (named 0) imm y2) 0, refl, (spares-sslice 𝓤 H A W (rtF (fInt Syntax.w64)) (tyRef (named 1) imm y1) 1, reads-sslice 𝓤 H A W (rtF (fInt Syntax.w64)) (tyRef (named 1) imm y1) 1, refl, (as-is 𝓤 H A (mslice (rtF (fInt Syntax.w64)) y3 5), reads-mslice 𝓤 H A W (rtF (fInt Syntax.w64)) y3 5, refl, (as-is 𝓤 H A (mslice (rtF (fInt Syntax.w64)) y3 6), reads-mslice 𝓤 H A W (rtF (fInt Syntax.w64)) y3 6, refl, tt)))) (room-gone 𝓤 H A y0) (tt, (tt, (tt, (tt, tt)))) refl) d15
+          d16 = s-seq 𝓤 H A W 𝓣 E G11 G12 b4 b13 Δ0 (both s10) at15 (t-call-plain 𝓤 H A W 𝓣 4 ps·0 r·0 (claims· .0) (claims· .1) "build::seed::seed" (known .0) E (λ pos β. β) G11 (record { pos = 1; ty = tyRef (named 0) imm y2; ref = λ x. x }, (record { pos = 2; ty = tyRef (named 1) imm y1; ref = λ x. x }, (record { pos = 10; ty = tyRef erased mut y1; ref = λ x. x }, (record { pos = 12; ty = tyRef erased mut y1; ref = λ x. x }, tt)))) 6 n0 (sub-id 𝓤 H A W (G11 .slots)) (spares-sslice 𝓤 H A W (rtF (fInt Syntax.w8)) (tyRef (named 0) imm y2) 0, reads-sslice 𝓤 H A W (rtF (fInt Syntax.w8)) (tyRef (named 0) imm y2) 0, refl, (spares-sslice 𝓤 H A W (rtF (fInt Syntax.w64)) (tyRef (named 1) imm y1) 1, reads-sslice 𝓤 H A W (rtF (fInt Syntax.w64)) (tyRef (named 1) imm y1) 1, refl, (as-is 𝓤 H A (mslice (rtF (fInt Syntax.w64)) y3 5), reads-mslice 𝓤 H A W (rtF (fInt Syntax.w64)) y3 5, refl, (as-is 𝓤 H A (mslice (rtF (fInt Syntax.w64)) y3 6), reads-mslice 𝓤 H A W (rtF (fInt Syntax.w64)) y3 6, refl, tt)))) (room-gone 𝓤 H A y0) (tt, (tt, (tt, (tt, tt)))) refl) d15
 
           d17 : Typed 𝓤 H A 𝓣 E G10 b15 Δ0 at17
           d17 = s-seq 𝓤 H A W 𝓣 E G10 G11 b3 b14 Δ0 (ask s9) at16 (t-sl-aggregate 𝓤 H A W E (rtF (fInt Syntax.w64)) 𝓣 (asMut (rtF (fInt Syntax.w64))) G10 11 12 6 y3 y3 (λ x. x) (oFld 4 ((field 1) ∷ []) y1 8 λ v. lenV (v .0)) (as-is 𝓤 H A (msptr (rtF (fInt Syntax.w64)) y3 6)) (room-gone 𝓤 H A y4) (reads-owed-len 𝓤 H A W (rtF (fInt Syntax.w64)) (tyRef (named 3) mut y1) 3 6 k2 8 refl, refl) refl refl λ b o k. tt) d16
@@ -1081,6 +1081,6 @@ module _ (claims· : Claims) where
           pub asked : (a : Dens κs ps) → (good : GoodsP κs ps a) → (pre : Pre· κs a) → (bs : List ℕ) → Φ (wantQ 5 ps r xs m κs qs a (Post· κs a)) (init 5 ps r xs m κs qs a)
           asked = λ a good pre bs. laid record { κs = κs; args = record { deck = a .0; floor = a .1 .0; label = a .1 .1 .0; labels = a .1 .1 .1 .0; tally = a .1 .1 .1 .1 .0 }; good = good; pre = pre }
 
-        module _ {M : Type 1} (𝓤 : URA M) (H : Heap 𝓤) (A : Atoms 𝓤) (W : Given 𝓤 H A) (𝓣 : Tables 𝓤 H) (known0 : Known 𝓤 H A W 𝓣 4 ps·0 r·0 (claims· .0) (claims· .1) "model::seed::seed") (known1 : Known 𝓤 H A W 𝓣 0 ps·1 r·1 (claims· .2) (claims· .3) "model::phases::with_elements") where
+        module _ {M : Type 1} (𝓤 : URA M) (H : Heap 𝓤) (A : Atoms 𝓤) (W : Given 𝓤 H A) (𝓣 : Tables 𝓤 H) (known0 : Known 𝓤 H A W 𝓣 4 ps·0 r·0 (claims· .0) (claims· .1) "build::seed::seed") (known1 : Known 𝓤 H A W 𝓣 0 ps·1 r·1 (claims· .2) (claims· .3) "model::phases::with_elements") where
           pub spec : Triple 𝓤 (WpFn 𝓤 H (𝓣 .C) (𝓣 .Λ) (fnOf 5 ps r xs m hs body)) (plainOf 𝓤 H A 5 ps r Pre· Post·)
           spec = t-fn-plain 𝓤 H A W 𝓣 5 ps r xs m hs body (λ κs qs bs. Φ) (λ κs qs bs bd. typed κs qs 𝓤 H A W 𝓣 (known0, known1) bs bd) Pre· Post· asked
