@@ -10,7 +10,8 @@ use mathlib.Core.List.{List, [], _∷_, _++_, map, flatMap, List·Memᴰ as Memb
 use mathlib.Core.Logic.{⊎-elim}
 use native.Mathlib.Nat.{add-zero}
 use native.Mathlib.Omega.{arith}
-use lib.ListN.{length, getD, replicate, length-replicate}
+use lib.ListN.{length, getD, drop, length-drop, replicate, length-replicate}
+use lib.Seq.{getD-drop}
 use lib.Dec.{eqb, ltb}
 use borrow.Author.Tests.{eq-eqb, ne-eqb, eqb-true, lt-ltb, le-ltb}
 use types.Run.{OneOf, miss}
@@ -494,3 +495,19 @@ module _ (D : Deck) where
   pub asks-end : (p : ℕ → Bool) (marks : List ℕ) (k : ℕ) → 16384 ≤ k → asks p marks k ≡ true
   unfolding every
   asks-end p marks k h = rw (le-ltb k 16384 h)
+
+  -- the operands from one on, which the walk begins with
+  dropped-below : (n first : ℕ) (l : List ℕ) → ((j : ℕ) → j < length l → getD l j 0 < n) → (j : ℕ) → j < length (drop first l) → getD (drop first l) j 0 < n
+  dropped-below n first l b j h = rw (getD-drop first l j 0) (b (first + j) (omega (arith, h, length-drop first l)))
+
+  pub asks-operands : (q : Question) (label : List ℕ) (l : List ℕ) (first i : ℕ) → i ≤ 16384 → ((j : ℕ) → j < length l → getD l j 0 < i) → {none was : List ℕ} → none ≡ replicate 256 0 → was ≡ insertAll none (drop first l)
+      → {marks : List ℕ} {k : ℕ} → Next D was i marks k → every (map (everyLeaf D q label) (drop first l)) ≡ asks (answer D q label) marks k
+  unfolding everyLeaf
+  asks-operands q label l first i h b {none} {was} z m N =
+      sym (every-flat (answer D q label) (leaves D) (drop first l)) ∙ asks-start (answer D q label) 256 (drop first l) i h (dropped-below i first l b) (m ∙ ap (λ (x : List ℕ). insertAll x (drop first l)) z) N
+
+  -- each step goes down
+  pub next-less : {was : List ℕ} {i : ℕ} {marks : List ℕ} {k : ℕ} → Next D was i marks k → i < 16384 → cond (ltb k 16384) (suc k) 0 < cond (ltb i 16384) (suc i) 0
+  next-less {was} {i} {marks} {k} N h =
+      ⊎-elim (λ (l : k < 16384). rw (lt-ltb k 16384 l, lt-ltb i 16384 h) (omega (arith, N .down l)))
+      (λ (g : 16384 ≤ k). rw (le-ltb k 16384 g, lt-ltb i 16384 h) (omega arith)) (lt-or-le k 16384)
