@@ -1,61 +1,77 @@
+use Prim.Native.Nat.{_-_, _≤_}
+use mathlib.Core.Path.{_≡_, refl, sym, _∙_}
+use mathlib.Core.List.{map}
+use native.Mathlib.Omega.{arith}
+use borrow.Author.Needs.{needs}
+use borrow.Author.Tests.{not-true, not-false}
+use denote.Ref.{now}
+use lib.ListN.{drop}
+use Rattle.deck.specs.Content.{deckOf}
+use Rattle.deck.specs.Reads.{listOf}
+use Rattle.deck.proofs.TableLaws.{list-length}
+use Rattle.eval.specs.Lists.{every}
+use Rattle.build.specs.Leaves.{everyLeaf, rowAsked}
+use Rattle.build.proofs.ListWalks.{every-end, every-step, every-stop}
+use Rattle.build.proofs.LeafLaws.{every-leaf-one}
 use Rattle.build.proofs.leaves.operands_answer.Statement.{statement}
 use Rattle.build.proofs.leaves.operands_answer.Tie as tie
-use Rattle.build.proofs.leaves.operands_answer.Reads as reads
-use Rattle.build.proofs.leaves.operands_answer.Lts as lts
-use Rattle.build.proofs.leaves.is_and.Reads as is-and-reads
-use Rattle.build.proofs.leaves.leaf_answer.Reads as leaf-answer-reads
-use Rattle.build.proofs.leaves.rest_answer.Reads as rest-answer-reads
-use Rattle.deck.proofs.rows.item.Reads as item-reads
 
 abbrev Inv-loop : tie.InvT-loop
-Inv-loop deck labels elements question owner list count i₀ i = ?
+Inv-loop deck labels elements question owner list count i₀ i =
+    let p = everyLeaf (deckOf deck) question (rowAsked (deckOf deck) labels elements question) in
+    (i ≤ count) × (every (map p (listOf deck list)) ≡ every (map p (drop i (listOf deck list))))
 
 abbrev μ-loop : tie.MeasureT-loop
-μ-loop deck labels elements question owner list count i₀ i = ?
+μ-loop deck labels elements question owner list count i₀ i = count - i
 
--- src/leaves.rt:172:5
 loop-holds : tie.Need-loop-holds Inv-loop μ-loop
-loop-holds c = ?
+loop-holds c = (omega arith, refl)
 
--- src/leaves.rt:173:27
 item-requires : tie.Need-item-requires Inv-loop μ-loop
-item-requires c κs = ?
+item-requires c κs = let z = c .before .before .before .before in (z .pre .0, (z .pre .1 .1 .1 .within, omega arith))
 
--- src/leaves.rt:174:12
 is-and-requires : tie.Need-is-and-requires Inv-loop μ-loop
-is-and-requires c κs = ?
+is-and-requires c κs =
+    let z = c .before .before .before .before .before in
+    let o = z .pre .1 .1 .1 .below (c .before .before .loop .i) (omega (arith, list-length (now (z .args .deck)) (z .args .list .start) (z .args .list .count))) in
+    (z .pre .0, omega (arith, o, z .pre .1 .1 .0, c .item .ensures))
 
--- src/leaves.rt:175:13
 rest-answer-requires : tie.Need-rest-answer-requires Inv-loop μ-loop
-rest-answer-requires c κs = ?
+rest-answer-requires c κs = c .before .before .before .before .before .before .before .pre
 
--- src/leaves.rt:175:13
 returns : tie.Need-returns Inv-loop μ-loop
-returns c = ?
+returns c = c .rest-answer .ensures ∙ sym (c .before .before .before .before .before .loop .inv .1)
 
--- src/leaves.rt:177:13
 leaf-answer-requires : tie.Need-leaf-answer-requires Inv-loop μ-loop
-leaf-answer-requires c κs = ?
+leaf-answer-requires c κs =
+    let z = c .before .before .before .before .before .before .before in
+    let o = z .pre .1 .1 .1 .below (c .before .before .before .before .loop .i) (omega (arith, list-length (now (z .args .deck)) (z .args .list .start) (z .args .list .count))) in
+    (z .pre .0, (z .pre .1 .0, omega (arith, o, z .pre .1 .1 .0, c .before .before .item .ensures)))
 
--- src/leaves.rt:178:13
 returns-2 : tie.Need-returns-2 Inv-loop μ-loop
-returns-2 c = ?
+returns-2 c =
+    let z = c .before .before .before .before .before .before .before .before .before in
+    let w = c .before .before .before .before .before .before .loop in
+    let a = every-leaf-one _ _ _ (c .before .before .before .before .item .result) (c .before .before .before .is-and .ensures (c .before .before .if1 .left)) in
+    every-stop 0 (listOf (now (z .args .deck)) (z .args .list)) (w .i) _ (omega (arith, list-length (now (z .args .deck)) (z .args .list .start) (z .args .list .count))) (rw (c .before .before .before .before .item .ensures) at (sym a ∙ sym (c .before .leaf-answer .ensures) ∙ not-true _ (c .if2 .taken))) ∙ sym (w .inv .1)
 
--- src/leaves.rt:180:9
 add-i : tie.Need-add-i Inv-loop μ-loop
-add-i c = ?
+add-i c = omega (arith, c .before .before .before .before .before .before .before .before .before .good)
 
--- src/leaves.rt:172:5
 loop-less : tie.Need-loop-less Inv-loop μ-loop
-loop-less c = ?
+loop-less c = omega arith
 
--- src/leaves.rt:172:5
 loop-again : tie.Need-loop-again Inv-loop μ-loop
-loop-again c = ?
+loop-again c =
+    let z = c .before .before .before .before .before .before .before .before .before in
+    let w = c .before .before .before .before .before .before .loop in
+    let a = every-leaf-one _ _ _ (c .before .before .before .before .item .result) (c .before .before .before .is-and .ensures (c .before .before .if1 .left)) in
+    (omega arith, w .inv .1 ∙ every-step 0 (listOf (now (z .args .deck)) (z .args .list)) (w .i) _ (omega (arith, list-length (now (z .args .deck)) (z .args .list .start) (z .args .list .count))) (rw (c .before .before .before .before .item .ensures) at (sym a ∙ sym (c .before .leaf-answer .ensures) ∙ not-false _ (c .if2 .left))))
 
--- src/leaves.rt:156:1
 returns-3 : tie.Need-returns-3 Inv-loop μ-loop
-returns-3 c = ?
+returns-3 c =
+    let z = c .before .before .before .before in
+    every-end 0 (listOf (now (z .args .deck)) (z .args .list)) (c .before .loop .i) _ (omega (arith, list-length (now (z .args .deck)) (z .args .list .start) (z .args .list .count))) ∙ sym (c .before .loop .inv .1)
 
 pub operands-answer-spec : {M : Type 1} → statement M
 operands-answer-spec =
