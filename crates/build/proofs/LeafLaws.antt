@@ -1,12 +1,13 @@
 -- What a concept leads to through Ands: its leaves, questions of them, and a walk downward by marks.
 --     leaves-and, leaves-other            of a concept that was read
+--     atoms-leaves                        required atoms, by the leaves
 --     universal-leaves, holds-leaves, atom-leaves    the three questions, each by the leaves: one law, `by-leaves`
 --     every-same                          a question does not mind repeats and order
 --     pending-next, pending-marked        the walk: from one mark to the next, and an And that marks its operands
 use Prim.Native.Nat.{ℕ, zero, suc, _+_, _-_, _*_, _/_, _%_, _<_, _≤_}
 use mathlib.Core.Bool.{Bool, true, false, cond, not, _||_, _&&_, or-false}
 use mathlib.Core.Path.{_≡_, refl, sym, ap, subst, _∙_}
-use mathlib.Core.List.{List, [], _∷_, _++_, map, flatMap, List·Memᴰ as Member, List·Memᴰ·head as here, List·Memᴰ·tail as there}
+use mathlib.Core.List.{List, [], _∷_, _++_, map, flatMap, append-nil}
 use mathlib.Core.Logic.{⊎-elim}
 use native.Mathlib.Nat.{add-zero}
 use native.Mathlib.Omega.{arith}
@@ -40,8 +41,8 @@ use Rattle.deck.specs.declared.numbers.Element.{Element}
 use Rattle.build.specs.Label.{labelHas, insertBit, insertAll}
 use Rattle.build.specs.Floor.{universalOf, universal, atomsOf, requiredAtoms}
 use Rattle.build.specs.Antecedent.{someIn, hasAtom, holdsAtoms}
-use Rattle.build.specs.Leaves.{leavesOf, leaves, holdsAtom, allows, answerOf, answer, everyLeaf, pending, highestMark, andBelow, Same, Next}
-use Rattle.build.proofs.ListWalks.{flat-same}
+use Rattle.build.specs.Leaves.{leavesOf, leaves, IsLeaf, holdsAtom, allows, answerOf, answer, everyLeaf, pending, highestMark, andBelow, Same, Next}
+use Rattle.build.proofs.ListWalks.{flat-same, flat-flat}
 use Rattle.build.proofs.MemberLaws.{has-insert, or-assoc, none-has, by-cases}
 use Rattle.build.proofs.LabelLaws.{length-insert, length-insert-all}
 use Rattle.build.proofs.FloorLaws.{universal-at, atoms-at, read-is, no-class}
@@ -153,6 +154,29 @@ module _ (D : Deck) (W : Sound D) where
     unfolding holdsAtoms
     holds-leaves = by-leaves (Held e) label (λ c. holds (requiredAtoms D c)) (λ c. holds-form c (conceptAt D c) (atoms-at D W c))
 
+  -- its required atoms are those of its leaves
+  leaf-atoms : (c : ℕ) → leaves D c ≡ c ∷ [] → requiredAtoms D c ≡ flatMap (requiredAtoms D) (leaves D c)
+  unfolding flatMap
+  leaf-atoms c e = rw e (sym (append-nil (requiredAtoms D c)))
+
+  atoms-form : (c : ℕ) (k : Concept) → ConceptFits (countsIn D) c k → leaves D c ≡ leavesOf c k (leaves D) → requiredAtoms D c ≡ atomsOf k (requiredAtoms D) → ((o : ℕ) → o < c → requiredAtoms D o ≡ flatMap (requiredAtoms D) (leaves D o)) → requiredAtoms D c ≡ flatMap (requiredAtoms D) (leaves D c)
+  unfolding leavesOf atomsOf
+  atoms-form c (Concept.And l) f e h ih = h ∙ flat-same (requiredAtoms D) (λ o. flatMap (requiredAtoms D) (leaves D o)) l (λ o m. ih o (each-below c l f o m)) ∙ sym (flat-flat (requiredAtoms D) (leaves D) l) ∙ ap (flatMap (requiredAtoms D)) (sym e)
+  atoms-form c Concept.Top f e h ih = leaf-atoms c e
+  atoms-form c Concept.Bot f e h ih = leaf-atoms c e
+  atoms-form c (Concept.Atomic k) f e h ih = leaf-atoms c e
+  atoms-form c (Concept.Nominal i) f e h ih = leaf-atoms c e
+  atoms-form c (Concept.SelfRestriction r) f e h ih = leaf-atoms c e
+  atoms-form c (Concept.Not b) f e h ih = leaf-atoms c e
+  atoms-form c (Concept.Or l) f e h ih = leaf-atoms c e
+  atoms-form c (Concept.Some r b) f e h ih = leaf-atoms c e
+  atoms-form c (Concept.All r b) f e h ih = leaf-atoms c e
+  atoms-form c (Concept.Min m r b) f e h ih = leaf-atoms c e
+  atoms-form c (Concept.Max m r b) f e h ih = leaf-atoms c e
+
+  pub atoms-leaves : (c : ℕ) → requiredAtoms D c ≡ flatMap (requiredAtoms D) (leaves D c)
+  atoms-leaves = falling (λ c. requiredAtoms D c ≡ flatMap (requiredAtoms D) (leaves D c)) (λ c ih. atoms-form c (conceptAt D c) (fits D W c) (leaves-at c) (atoms-at D W c) ih)
+
   not-any : {A : Type 0} (p : A → Bool) (l : List A) → not (any (map p l)) ≡ every (map (λ x. not (p x)) l)
   unfolding any every
   not-any p [] = refl
@@ -217,6 +241,42 @@ module _ (s : List ℕ) (A : IsAccepted s) (c : ℕ) {expr : ConceptExpr} (R : C
 
   pub leaves-other : OneOf (0 ∷ 1 ∷ 2 ∷ 3 ∷ 4 ∷ 5 ∷ 7 ∷ 8 ∷ 9 ∷ 10 ∷ 11 ∷ []) (tagOf the-type expr) → c ∷ [] ≡ leaves (deckOf s) c
   leaves-other h = is-leaf s c (leaves (deckOf s)) expr h ∙ leaves-read expr refl
+
+  pub is-leaf-read : OneOf (0 ∷ 1 ∷ 2 ∷ 3 ∷ 4 ∷ 5 ∷ 7 ∷ 8 ∷ 9 ∷ 10 ∷ 11 ∷ []) (tagOf the-type expr) → IsLeaf (conceptAt (deckOf s) c)
+  is-leaf-read h = subst IsLeaf (read-is s A c R expr refl) (leaf expr h)
+    where
+      leaf : (v : ConceptExpr) → OneOf (0 ∷ 1 ∷ 2 ∷ 3 ∷ 4 ∷ 5 ∷ 7 ∷ 8 ∷ 9 ∷ 10 ∷ 11 ∷ []) (tagOf the-type v) → IsLeaf (exprOf s v)
+      leaf ConceptExpr.Top h = tt
+      leaf ConceptExpr.Bot h = tt
+      leaf (ConceptExpr.Atomic k) h = tt
+      leaf (ConceptExpr.Nominal i) h = tt
+      leaf (ConceptExpr.SelfRestriction r) h = tt
+      leaf (ConceptExpr.Not b) h = tt
+      leaf (ConceptExpr.And l) h = absurd (miss (0 ∷ 1 ∷ 2 ∷ 3 ∷ 4 ∷ 5 ∷ 7 ∷ 8 ∷ 9 ∷ 10 ∷ 11 ∷ []) 6 tt h)
+      leaf (ConceptExpr.Or l) h = tt
+      leaf (ConceptExpr.Some r b) h = tt
+      leaf (ConceptExpr.All r b) h = tt
+      leaf (ConceptExpr.Min m r b) h = tt
+      leaf (ConceptExpr.Max m r b) h = tt
+
+  -- a leaf that is no atom requires none
+  pub leaf-atomless : OneOf (0 ∷ 1 ∷ 3 ∷ 4 ∷ 5 ∷ 6 ∷ 7 ∷ 8 ∷ 9 ∷ 10 ∷ 11 ∷ []) (tagOf the-type expr) → IsLeaf (conceptAt (deckOf s) c) → [] ≡ requiredAtoms (deckOf s) c
+  unfolding atomsOf
+  leaf-atomless h f = none expr h (subst IsLeaf (sym (read-is s A c R expr refl)) f) ∙ ap (λ (k : Concept). atomsOf k (requiredAtoms (deckOf s))) (read-is s A c R expr refl) ∙ sym (atoms-at (deckOf s) (sound s A) c)
+    where
+      none : (v : ConceptExpr) → OneOf (0 ∷ 1 ∷ 3 ∷ 4 ∷ 5 ∷ 6 ∷ 7 ∷ 8 ∷ 9 ∷ 10 ∷ 11 ∷ []) (tagOf the-type v) → IsLeaf (exprOf s v) → [] ≡ atomsOf (exprOf s v) (requiredAtoms (deckOf s))
+      none ConceptExpr.Top h f = refl
+      none ConceptExpr.Bot h f = refl
+      none (ConceptExpr.Atomic k) h f = absurd (miss (0 ∷ 1 ∷ 3 ∷ 4 ∷ 5 ∷ 6 ∷ 7 ∷ 8 ∷ 9 ∷ 10 ∷ 11 ∷ []) 2 tt h)
+      none (ConceptExpr.Nominal i) h f = refl
+      none (ConceptExpr.SelfRestriction r) h f = refl
+      none (ConceptExpr.Not b) h f = refl
+      none (ConceptExpr.And l) h f = absurd f
+      none (ConceptExpr.Or l) h f = refl
+      none (ConceptExpr.Some r b) h f = refl
+      none (ConceptExpr.All r b) h f = refl
+      none (ConceptExpr.Min m r b) h f = refl
+      none (ConceptExpr.Max m r b) h f = refl
 
   -- its answer, where it is no And
   answer-read : (q : Question) (label : List ℕ) (v : ConceptExpr) → expr ≡ v → answerOf q label (exprOf s v) ≡ answer (deckOf s) q label c
@@ -451,10 +511,11 @@ module _ (D : Deck) where
   }
 
   -- at a leaf, and at the end
-  pub walking-leaf : {was : List ℕ} {i : ℕ} {marks : List ℕ} {k : ℕ} → Walking was i marks k → k < 16384 → k ∷ [] ≡ leaves D k → Next D was i marks k
-  walking-leaf {was} {i} {marks} {k} G h e = record {
+  pub walking-leaf : {was : List ℕ} {i : ℕ} {marks : List ℕ} {k : ℕ} → Walking was i marks k → k < 16384 → k ∷ [] ≡ leaves D k → IsLeaf (conceptAt D k) → Next D was i marks k
+  walking-leaf {was} {i} {marks} {k} G h e f = record {
     same = λ x. G .same x ∙ ap (λ (xs : List ℕ). has (cond (ltb k 16384) (xs ++ pending D marks k) []) x) (sym e);
     down = G .down;
+    leaf = λ l. f;
     wide = G .wide;
   }
 
@@ -462,6 +523,7 @@ module _ (D : Deck) where
   walking-end {was} {i} {marks} {k} G h = record {
     same = λ x. G .same x ∙ ap (λ (c : Bool). has (cond c (leaves D k ++ pending D marks k) []) x) (le-ltb k 16384 h);
     down = λ l. absurd (omega (arith, l));
+    leaf = λ l. absurd (omega (arith, l));
     wide = G .wide;
   }
 
@@ -475,14 +537,12 @@ module _ (D : Deck) where
   abbrev asks : (ℕ → Bool) → List ℕ → ℕ → Bool
   asks p marks k = every (map p (andBelow D marks k))
 
-  pub asks-start : (p : ℕ → Bool) (w : ℕ) (l : List ℕ) (i : ℕ) → i ≤ w * 64 → ((j : ℕ) → j < length l → getD l j 0 < i) → {was : List ℕ} → was ≡ insertAll (replicate w 0) l → {marks : List ℕ} {k : ℕ} → Next D was i marks k
-      → every (map p (flatMap (leaves D) l)) ≡ asks p marks k
+  -- a walk begins with all that the operands lead to
+  pub begins : (w : ℕ) (l : List ℕ) (i : ℕ) → i ≤ w * 64 → ((j : ℕ) → j < length l → getD l j 0 < i) → {was : List ℕ} → was ≡ insertAll (replicate w 0) l → {marks : List ℕ} {k : ℕ} → Next D was i marks k → Same (flatMap (leaves D) l) (andBelow D marks k)
   unfolding has
-  asks-start p w l i h b {was} m {marks} {k} N =
-      every-same p (flatMap (leaves D) l) (andBelow D marks k)
-      (λ x.
+  begins w l i h b {was} m {marks} {k} N x =
       sym (or-false (has (flatMap (leaves D) l) x)) ∙ ap (λ (xs : List ℕ). has (flatMap (leaves D) l) x || has xs x) (sym (pending-none w i)) ∙ sym (has-append (flatMap (leaves D) l) (pending D (replicate w 0) i) x)
-      ∙ pending-marked (replicate w 0) l i (rw (length-replicate {A = ℕ} w 0) h) b x ∙ ap (λ (ys : List ℕ). has (pending D ys i) x) (sym m) ∙ N .same x)
+      ∙ pending-marked (replicate w 0) l i (rw (length-replicate {A = ℕ} w 0) h) b x ∙ ap (λ (ys : List ℕ). has (pending D ys i) x) (sym m) ∙ N .same x
 
   pub asks-next : (p : ℕ → Bool) {was : List ℕ} {i : ℕ} → i < 16384 → p i ≡ true → {marks : List ℕ} {k : ℕ} → Next D was i marks k → asks p was i ≡ asks p marks k
   unfolding every
@@ -504,7 +564,7 @@ module _ (D : Deck) where
       → {marks : List ℕ} {k : ℕ} → Next D was i marks k → every (map (everyLeaf D q label) (drop first l)) ≡ asks (answer D q label) marks k
   unfolding everyLeaf
   asks-operands q label l first i h b {none} {was} z m N =
-      sym (every-flat (answer D q label) (leaves D) (drop first l)) ∙ asks-start (answer D q label) 256 (drop first l) i h (dropped-below i first l b) (m ∙ ap (λ (x : List ℕ). insertAll x (drop first l)) z) N
+      sym (every-flat (answer D q label) (leaves D) (drop first l)) ∙ every-same (answer D q label) _ _ (begins 256 (drop first l) i h (dropped-below i first l b) (m ∙ ap (λ (x : List ℕ). insertAll x (drop first l)) z) N)
 
   -- each step goes down
   pub next-less : {was : List ℕ} {i : ℕ} {marks : List ℕ} {k : ℕ} → Next D was i marks k → i < 16384 → cond (ltb k 16384) (suc k) 0 < cond (ltb i 16384) (suc i) 0

@@ -17,3 +17,4 @@ pub mod ExistsLaws
 pub mod AntecedentLaws
 pub mod GrowLaws
 pub mod LeafLaws
+pub mod JoinLaws

@@ -29,6 +29,21 @@ leavesOf c (Concept.All r b) f = c ∷ []
 leavesOf c (Concept.Min m r b) f = c ∷ []
 leavesOf c (Concept.Max m r b) f = c ∷ []
 
+-- it is no And
+abbrev pub IsLeaf : Concept → Type 0
+IsLeaf (Concept.And l) = ⊥
+IsLeaf Concept.Top = Unit {0}
+IsLeaf Concept.Bot = Unit {0}
+IsLeaf (Concept.Atomic k) = Unit {0}
+IsLeaf (Concept.Nominal i) = Unit {0}
+IsLeaf (Concept.SelfRestriction r) = Unit {0}
+IsLeaf (Concept.Not b) = Unit {0}
+IsLeaf (Concept.Or l) = Unit {0}
+IsLeaf (Concept.Some r b) = Unit {0}
+IsLeaf (Concept.All r b) = Unit {0}
+IsLeaf (Concept.Min m r b) = Unit {0}
+IsLeaf (Concept.Max m r b) = Unit {0}
+
 unfoldable pub leaves : Deck → ℕ → List ℕ
 leaves D = numbered [] (λ c f. leavesOf c (conceptAt D c) f)
 
@@ -93,8 +108,9 @@ andBelow D marks k = cond (ltb k 16384) (k ∷ pending D marks k) []
 abbrev pub Same : List ℕ → List ℕ → Type 0
 Same xs ys = (x : ℕ) → has xs x ≡ has ys x
 
--- the next one of a walk that stood at i: nothing is lost, and the walk goes down
+-- the next one of a walk that stood at i: nothing is lost, it is no And, and the walk goes down
 pub record Next (D : Deck) (was : List ℕ) (i : ℕ) (marks : List ℕ) (k : ℕ) : Type 0 where
   pub same : Same (pending D was i) (andBelow D marks k)
   pub down : k < 16384 → k < i
+  pub leaf : k < 16384 → IsLeaf (conceptAt D k)
   pub wide : length marks ≡ length was

@@ -8,7 +8,7 @@ use Rattle.deck.proofs.SoundLaws.{limited}
 use Rattle.build.proofs.FloorLaws.{fits-read}
 use native.Mathlib.Omega.{arith}
 use Rattle.deck.specs.Content.{deckOf}
-use Rattle.build.proofs.LeafLaws.{Walking, walking-start, walking-next, walking-leaf, walking-end, walk-less, leaves-and, leaves-other}
+use Rattle.build.proofs.LeafLaws.{Walking, walking-start, walking-next, walking-leaf, walking-end, walk-less, leaves-and, leaves-other, is-leaf-read}
 use Rattle.build.proofs.marks.next_leaf.Statement.{statement}
 use Rattle.build.proofs.marks.next_leaf.Tie as tie
 
@@ -34,7 +34,7 @@ same-length : tie.Need-same-length Inv-loop μ-loop
 same-length c = c .before .before .before .loop .inv .wide
 
 returns : tie.Need-returns Inv-loop μ-loop
-returns c = let z = c .before .before .before .before .before .before .before .before in walking-leaf _ (c .before .before .before .loop .inv) (c .before .before .loop-test .taken) (leaves-other _ (z .pre .0) _ (c .before .concept-at .ensures) (c .match .keys2))
+returns c = let z = c .before .before .before .before .before .before .before .before in walking-leaf _ (c .before .before .before .loop .inv) (c .before .before .loop-test .taken) (leaves-other _ (z .pre .0) _ (c .before .concept-at .ensures) (c .match .keys2)) (is-leaf-read _ (z .pre .0) _ (c .before .concept-at .ensures) (c .match .keys2))
 
 mark-operands-requires : tie.Need-mark-operands-requires Inv-loop μ-loop
 mark-operands-requires c κs =
