@@ -16,3 +16,5 @@ pub mod BodyLaws
 pub mod ExistsLaws
 pub mod AntecedentLaws
 pub mod GrowLaws
+pub mod LeafLaws
+pub mod JoinLaws

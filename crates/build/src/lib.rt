@@ -6,6 +6,8 @@ pub mod exists;
 pub mod floor;
 pub mod intern;
 pub mod labels;
+pub mod leaves;
+pub mod marks;
 pub mod prints;
 pub mod push;
 pub mod reach;
