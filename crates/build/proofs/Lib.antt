@@ -16,3 +16,4 @@ pub mod BodyLaws
 pub mod ExistsLaws
 pub mod AntecedentLaws
 pub mod GrowLaws
+pub mod QuietLaws

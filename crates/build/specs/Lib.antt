@@ -11,3 +11,4 @@ pub mod Target
 pub mod Model
 pub mod Exists
 pub mod Antecedent
+pub mod Quiet

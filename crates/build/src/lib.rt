@@ -8,6 +8,7 @@ pub mod intern;
 pub mod labels;
 pub mod prints;
 pub mod push;
+pub mod quiet;
 pub mod reach;
 pub mod reasons;
 pub mod seed;
