@@ -26,6 +26,7 @@ use Rattle.build.specs.Floor.{requiredAtoms}
 use Rattle.build.specs.Reasons.{boundTripped, counted, Log, note}
 use Rattle.build.specs.Push.{State, edge, added, pushEdge}
 use Rattle.build.specs.Model.{Model, tripState, reach}
+use Rattle.build.specs.Quiet.{modelSize, LiveModel}
 use Rattle.build.specs.Exists.{Body, reasonsOf, bodyIn, bodyLabel, withReasons, reachBody, workOf, workStep, idle, work}
 use Rattle.build.proofs.InternLaws.{interned-known, interned-new, interned-grows, by-cond}
 use Rattle.build.proofs.BodyLaws.{body-reasons}
@@ -107,12 +108,6 @@ push-grows limit e s =
     (by-cond Q (edgeIn (s .edges) (e .role .0) (e .from .0) (e .to .0)) s (added limit e s) (grows-same s) (added-grows limit e s))
 
 -- ---- a structure in the making
-abbrev pub modelSize : Model → ℕ
-modelSize m = length (m .labels) + (length (m .state .edges) + m .state .reasons)
-
-abbrev pub LiveModel : Model → Type 0
-LiveModel m = (m .state .reasons < 4294967295) × (m .state .tripped ≡ false)
-
 abbrev pub Builds : Model → Model → Type 0
 Builds = Grows modelSize LiveModel
 
@@ -166,7 +161,7 @@ module _ (D : Deck) (floor : List ℕ) (B : Bounds) where
   body-grows r b m =
       rw (body-reasons D r (m .state .log) (m .state .reasons) b) (walk-grows note (reasonsOf D r (requiredAtoms D b)) (λ x i. note-grows x) (logOf m))
 
-  reach-body-grows : (r b e : ℕ) (m : Model) → Builds m (reachBody D floor B r b e m)
+  pub reach-body-grows : (r b e : ℕ) (m : Model) → Builds m (reachBody D floor B r b e m)
   unfolding reachBody
   reach-body-grows r b e m = grows-trans (reasons-grow m (bodyIn D floor B r b m) (body-grows r b m)) (reach-grows B r e (bodyLabel D floor B r b m) (withReasons m (bodyIn D floor B r b m)))
 

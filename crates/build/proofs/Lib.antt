@@ -18,3 +18,4 @@ pub mod AntecedentLaws
 pub mod GrowLaws
 pub mod LeafLaws
 pub mod JoinLaws
+pub mod QuietLaws

@@ -3,6 +3,7 @@ ghost use mathlib.Core.Path.{_≡_};
 ghost use mathlib.Core.Bool.{true};
 ghost use Rattle.build.specs.Model.{among};
 ghost use Rattle.build.specs.Push.{quiet};
+ghost use Rattle.build.specs.Quiet.{unchanged};
 
 pub struct Tally {
     pub elements: u32,
@@ -60,4 +61,20 @@ impl Step {
             tripped: true,
         }
     }
+}
+
+// Did the step from t to u change nothing? Every count only grows, but the total of reasons stops.
+pub fn unchanged(t: Tally, u: Tally) -> bool
+    ensures { λ r. ⌜ r ≡ unchanged t u ⌝ }
+{
+    if t.elements != u.elements {
+        return false;
+    }
+    if t.edges != u.edges {
+        return false;
+    }
+    if t.reasons != u.reasons {
+        return false;
+    }
+    u.reasons < 4294967295
 }

@@ -2,20 +2,18 @@
 --     from-passed     the pairs from a member that is passed over
 --     stands-none     nothing is known
 --     stands-after    the pairs from a member that fires
-use Prim.Native.Nat.{ℕ, _+_, _<_, _≤_}
+use Prim.Native.Nat.{ℕ, _+_}
 use mathlib.Core.Bool.{Bool, true, false, cond, not, _&&_}
 use mathlib.Core.Path.{_≡_, refl, sym, ap, subst, _∙_}
 use mathlib.Core.List.{List, [], List·Memᴰ as Member}
 use native.Mathlib.Omega.{arith}
-use lib.ListN.{length, getD}
-use lib.Dec.{eqb, ltb}
-use borrow.Author.Tests.{eq-eqb, eqb-true, eqb-false, ltb-true}
+use lib.ListN.{getD}
+use lib.Dec.{eqb}
+use borrow.Author.Tests.{eq-eqb, eqb-true, eqb-false}
 use Rattle.deck.specs.declared.numbers.ConceptId.{ConceptId}
 use Rattle.deck.specs.Deck.{Deck}
 use Rattle.deck.specs.Content.{deckOf}
-use Rattle.eval.specs.Lent.{labelWidth}
-use Rattle.eval.proofs.EdgeWalks.{edges-length}
-use Rattle.eval.proofs.Clash.{clash, both-true}
+use Rattle.eval.proofs.Clash.{clash}
 use Rattle.build.specs.declared.bounds.Bounds.{Bounds}
 use Rattle.build.specs.declared.tally.Tally.{Tally}
 use Rattle.build.specs.declared.tally.Step.{Step}
@@ -23,15 +21,15 @@ use Rattle.model.specs.declared.still.Still.{Still}
 use Rattle.model.specs.declared.still.Still.the-variants.{Unknown, Others, All}
 use Rattle.build.specs.Model.{Model, Buffers, begun, Prepared, Built}
 use Rattle.build.specs.Exists.{work}
+use Rattle.build.specs.Quiet.{unchanged, modelSize, LiveModel}
 use Rattle.model.specs.Rounds.{fire, firePair, fireFrom}
 use Rattle.build.specs.Antecedent.{isRule, holdsAtoms}
-use Rattle.model.specs.Still.{idles, Stands, passes, joined, after, unchanged}
-use Rattle.build.proofs.RowLaws.{length-rows}
+use Rattle.model.specs.Still.{idles, Stands, passes, joined, after}
 use Rattle.build.proofs.WalkLaws.{walk-keeps}
 use Rattle.build.proofs.BuildLaws.{built-start}
 use Rattle.model.proofs.RoundLaws.{either}
 use Rattle.model.proofs.StillLaws.{from-grows, others-still}
-use Rattle.build.proofs.GrowLaws.{modelSize, LiveModel}
+use Rattle.build.proofs.QuietLaws.{Same, same-of, begun-size}
 
 -- ---- members by their numbers
 -- the pairs of a member that is passed over go to others, which idle
@@ -69,23 +67,6 @@ module _ (D : Deck) (floor : List ℕ) (B : Bounds) (e : ℕ) (l : List ℕ) whe
       go : (c : ℕ) → Member c l → idles (joined s a) c ≡ true → (x : Bool) → eqb (a .0) c ≡ x → work D floor B c e m ≡ m
       go c i h true q = S .idle c i (joined-idles s a c p h (eqb-true (a .0) c q))
       go c i h false q = others c i (eqb-false (a .0) c q)
-
--- ---- the counts
-record Same (t u : Tally) : Type 0 where
-  pub elements : t .elements ≡ u .elements
-  pub edges : t .edges ≡ u .edges
-  pub reasons : t .reasons ≡ u .reasons
-  pub low : u .reasons < 4294967295
-
-same-of : (t u : Tally) → unchanged t u ≡ true → Same t u
-same-of t u h =
-    let x = both-true (eqb (t .elements) (u .elements)) (eqb (t .edges) (u .edges) && (eqb (t .reasons) (u .reasons) && ltb (u .reasons) 4294967295)) h in
-    let y = both-true (eqb (t .edges) (u .edges)) (eqb (t .reasons) (u .reasons) && ltb (u .reasons) 4294967295) (x .1) in
-    let z = both-true (eqb (t .reasons) (u .reasons)) (ltb (u .reasons) 4294967295) (y .1) in
-    record { elements = eqb-true (t .elements) (u .elements) (x .0); edges = eqb-true (t .edges) (u .edges) (y .0); reasons = eqb-true (t .reasons) (u .reasons) (z .0); low = ltb-true (u .reasons) 4294967295 (z .1) }
-
-begun-size : (D : Deck) (b : Buffers) (t : Tally) → t .edges ≤ length (b .edges) → modelSize (begun D b t) ≡ t .elements + (t .edges + t .reasons)
-begun-size D b t h = omega (arith, length-rows (labelWidth D) (t .elements) (b .labels), edges-length (b .edges) (t .edges) h)
 
 -- ---- the pairs from member a, which fires, and was not passed over
 module _ {s : List ℕ} {B : Bounds} {b : Buffers} {t : Tally} {floor label : List ℕ} (P : Prepared s B b t floor label) (e : ℕ) (l : List ℕ) (a : ConceptId) {b′ : Buffers} {l′ : List ℕ} {r : Step}

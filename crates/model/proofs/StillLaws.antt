@@ -13,7 +13,8 @@ use Rattle.model.specs.Rounds.{fire, firePair, fireFrom}
 use Rattle.build.specs.Antecedent.{isRule, holdsAtoms}
 use Rattle.build.proofs.InternLaws.{by-cond}
 use Rattle.model.proofs.RoundLaws.{pair-differs}
-use Rattle.build.proofs.GrowLaws.{grows-same, walk-grows, each-still, modelSize, LiveModel, Builds, work-grows}
+use Rattle.build.specs.Quiet.{modelSize, LiveModel}
+use Rattle.build.proofs.GrowLaws.{grows-same, walk-grows, each-still, Builds, work-grows}
 
 module _ (D : Deck) (floor : List ℕ) (B : Bounds) where
   -- ---- the pairs of a member at an element

@@ -1,13 +1,12 @@
 -- What is known of the members of an EquivalentClasses axiom at an element: which of them, worked, would change nothing.
 use Prim.Native.Nat.{ℕ}
-use mathlib.Core.Bool.{Bool, true, false, cond, not, _&&_}
+use mathlib.Core.Bool.{Bool, true, false, cond, not}
 use mathlib.Core.List.{List, List·Memᴰ as Member}
 use mathlib.Core.Path.{_≡_}
-use lib.Dec.{eqb, ltb}
+use lib.Dec.{eqb}
 use Rattle.deck.specs.declared.numbers.ConceptId.{ConceptId}
 use Rattle.deck.specs.Deck.{Deck}
 use Rattle.build.specs.declared.bounds.Bounds.{Bounds}
-use Rattle.build.specs.declared.tally.Tally.{Tally}
 use Rattle.model.specs.declared.still.Still.{Still}
 use Rattle.model.specs.declared.still.Still.the-variants.{Unknown, Others, All}
 use Rattle.build.specs.Model.{Model}
@@ -36,7 +35,3 @@ joined All a = All
 
 abbrev pub after : Still → ConceptId → Bool → Still
 after s a same = cond same (joined s a) Unknown
-
--- the counts stand, and "the total stops at 4,294,967,295" hides no reason
-abbrev pub unchanged : Tally → Tally → Bool
-unchanged t u = eqb (t .elements) (u .elements) && (eqb (t .edges) (u .edges) && (eqb (t .reasons) (u .reasons) && ltb (u .reasons) 4294967295))

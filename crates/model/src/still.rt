@@ -1,7 +1,6 @@
 // Members of EquivalentClasses that would change nothing at an element.
 ghost use mathlib.Core.Path.{_≡_};
-ghost use Rattle.model.specs.Still.{passes, after, unchanged};
-use build::tally::Tally;
+ghost use Rattle.model.specs.Still.{passes, after};
 use deck::numbers::ConceptId;
 
 // What is known: nothing; that no member of another number would change anything; that none would.
@@ -36,20 +35,4 @@ impl Still {
             Still::All => Still::All,
         }
     }
-}
-
-// Did the step from t to u change nothing? Every count only grows, but the total of reasons stops.
-pub fn unchanged(t: Tally, u: Tally) -> bool
-    ensures { λ r. ⌜ r ≡ unchanged t u ⌝ }
-{
-    if t.elements != u.elements {
-        return false;
-    }
-    if t.edges != u.edges {
-        return false;
-    }
-    if t.reasons != u.reasons {
-        return false;
-    }
-    u.reasons < 4294967295
 }

@@ -1,6 +1,6 @@
 use borrow.Author.Tests.{eq-eqb, ne-eqb}
-use Rattle.model.proofs.still.unchanged.Statement.{statement}
-use Rattle.model.proofs.still.unchanged.Tie as tie
+use Rattle.build.proofs.tally.unchanged.Statement.{statement}
+use Rattle.build.proofs.tally.unchanged.Tie as tie
 
 returns : tie.Need-returns
 returns c = let a = c .before .before .before .args in simp (ne-eqb (a .t .elements) (a .u .elements) (c .if1 .taken))
