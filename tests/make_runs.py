@@ -330,6 +330,12 @@ class Rows(Made):
     def both(self, *operands):
         return self.concept(AND, operands)
 
+    def doubled(self, levels, operand):
+        """Ands that each list the concept before them twice."""
+        for _ in range(levels):
+            operand = self.both(operand, operand)
+        return operand
+
     def sub_class(self, sub, sup):
         return self.with_axiom(SUB_CLASS, sub, sup)
 
@@ -339,8 +345,8 @@ def own(count):
     return [(k,) for k in range(count)]
 
 
-def add(name, deck, bounds=WIDE, last=4, room=None):
-    """A case. Without a room the buffers are a little longer than is needed."""
+def add(name, deck, bounds=WIDE, last=4, room=None, found=None):
+    """A case. Without a room the buffers are a little longer than is needed. What is found may be given."""
     check_name(name, CASES)
     data = deck if isinstance(deck, bytes) else deck.bytes()
     classes = 0 if number(data) else Reader(data).count['classes']
@@ -348,7 +354,8 @@ def add(name, deck, bounds=WIDE, last=4, room=None):
         least = Room(0, 0, 0, 0) if number(data) else need(Reader(data), bounds)
         room = Room(*[lent + more for lent, more in zip(least, (3, 2, 18, 5))])
     assert all(lent <= most for lent, most in zip(room, MOST)), (name, room)
-    found = answered(data, bounds, last, room)
+    if found is None:
+        found = answered(data, bounds, last, room)
     CASES.append((name, data, bounds, last, room, printed(name, found, classes, room)))
     return found
 
@@ -889,6 +896,87 @@ def nested():
     case('shared-ands', 'open', d, [(1,)], [(0, 0, 0)], [(RUN_DELTA, 1, 0)] * 16)
 
 
+class Again(collections.namedtuple('Again', 'reason times')):
+    """A reason given again and again: as long as a list of it, without being one."""
+
+    def __len__(self):
+        return self.times
+
+    def __getitem__(self, places):
+        return [self.reason] * len(range(*places.indices(self.times)))
+
+
+def universal_top(levels, base=TOP):
+    """Every element has an edge to that of class 1, and those without a real class have class 2."""
+    d = Rows(own(4), real=1, facts=[(0, 0, 3)]).atoms()
+    top = d.doubled(levels, d.concept(TOP) if base == TOP else 0)
+    return d.sub_class(top, d.some(0, 1)).sub_class(top, 2)
+
+
+def floor_atoms(levels):
+    d = Rows(own(4), real=1, facts=[(0, 0, 3)]).atoms()
+    return d.sub_class(d.concept(TOP), d.doubled(levels, d.both(2, 1)))
+
+
+def antecedent_atoms(levels):
+    d = Rows([(0,), (0, 1), (2,)]).atoms()
+    return d.sub_class(d.doubled(levels, d.both(0, 1)), d.some(0, 2))
+
+
+def body_atoms(levels):
+    d = Rows(own(4), real=3).atoms()
+    return d.sub_class(0, d.some(0, d.doubled(levels, d.both(3, 1))))
+
+
+def body_open(levels):
+    """The range of the role is class 3, which no row has: LabelNotClosed with the first atom, after Ands without one."""
+    d = Rows(own(4), [((0,), (3,))]).atoms()
+    none = d.doubled(levels, d.concept(TOP))
+    return d.sub_class(0, d.some(0, d.doubled(levels, d.both(none, 2, 1))))
+
+
+def consequent_ands(levels):
+    d = Rows(own(3)).atoms()
+    return d.sub_class(0, d.doubled(levels, d.both(d.some(0, 1), d.some(0, 2))))
+
+
+def consequent_somes(levels):
+    """An And of one Some twice, whose body is such an And, and so on: from the empty label to itself."""
+    d = Rows(own(2), real=1).atoms()
+    body = d.both()
+    for _ in range(levels):
+        some = d.some(0, body)
+        body = d.both(some, some)
+    return d.sub_class(0, body)
+
+
+PLACES = (('top', universal_top), ('atomic', lambda levels: universal_top(levels, ATOMIC)), ('floor', floor_atoms),
+          ('antecedent', antecedent_atoms), ('body', body_atoms), ('open-body', body_open),
+          ('consequent', consequent_ands), ('consequent-of-somes', consequent_somes))
+
+
+def body_deltas(levels):
+    d = Rows(own(2), [((0,), (0,))], unsat={0}, injected=[(1, 0, 0)]).atoms()
+    return d.sub_class(1, d.some(0, d.doubled(levels, 1)))
+
+
+def sixty():
+    """Sixty levels, where a run could walk each occurrence: what it leaves is what three levels leave."""
+    for place, made in PLACES:
+        for last in (1, 2, 3, 4) if place in ('top', 'atomic') else (3, 4):
+            short = made(3).bytes()
+            found = run(short, WIDE, last, need(Reader(short), WIDE))
+            assert len(found.reasons) < 7 and (place != 'top' or last < 3 or len(found.labels) == 3)
+            add('sixty-%s-last-phase-%d' % (place, last), made(60), last=last, found=found)
+    # One RunDelta an occurrence: the log keeps the first, the total stops.
+    for levels, total in ((9, 512), (31, 2147483648), (60, 4294967295)):
+        found = run(body_deltas(3).bytes(), WIDE, 4, need(Reader(body_deltas(3).bytes()), WIDE))
+        assert found.reasons == [(RUN_DELTA, 1, 0)] * 8, found.reasons
+        for words in (0, 3, 7, 18):
+            add('deltas-%d-levels-log-%d' % (levels, words), body_deltas(levels),
+                room=Room(13, 15, words, 9), found=found._replace(reasons=Again((RUN_DELTA, 1, 0), total)))
+
+
 def every_tag():
     """base() has every concept tag and every axiom tag."""
     for last in (1, 2, 3, 4):
@@ -1003,7 +1091,7 @@ def encoded(name, data, bounds_, last, room):
 
 def make_cases():
     for make in (specimens, traps, seeding, floors, targets, expanding, rules, growing, bounds, closings, phases,
-                 measures, widths, nested, every_tag, malformed, random_runs):
+                 measures, widths, nested, sixty, every_tag, malformed, random_runs):
         make()
 
 

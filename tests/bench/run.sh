@@ -6,7 +6,7 @@ for name in deck eval; do
     gcc -O2 -Wall -Wextra -o target/bench_$name tests/bench/$name.c target/staticlib/libbench_$name.a
 done
 rt staticlib capi
-for name in deep stalls; do
+for name in deep stalls shared; do
     gcc -O2 -Wall -Wextra -o target/bench_$name tests/bench/$name.c target/staticlib/libcapi.a -lpthread
 done
 rt check verify
@@ -15,5 +15,6 @@ target/bench_deck
 failed=0
 target/bench_deep || failed=1
 target/bench_stalls || failed=1
+target/bench_shared || failed=1
 python3 tests/bench/stalls.py || failed=1
 exit $failed

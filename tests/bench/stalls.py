@@ -70,13 +70,6 @@ def nest(d, depth, body, roles=(0,)):
     return body
 
 
-def doubled(d, levels, operand):
-    """Ands that each list the concept before them twice."""
-    for _ in range(levels):
-        operand = d.both(operand, operand)
-    return operand
-
-
 def parallel_roles():
     """An edge of each of four roles under role 0, and Somes of role 0 that are nowhere true."""
     roles = [((0, 1, 2, 3), ()), ((1,), ()), ((2,), ()), ((3,), ())]
@@ -93,7 +86,7 @@ def dense(depth, elements, edges, seed=1):
 
 def shared_ands(axiom):
     d = Rows(own(2), facts=[(0, 0, 0)])
-    top = doubled(d, 60, d.concept(ATOMIC, 0))
+    top = d.doubled(60, d.concept(ATOMIC, 0))
     if axiom == DISJOINT:
         return d.with_axiom(DISJOINT, [top, d.concept(ATOMIC, 1)])
     return d.with_axiom(axiom, named(0), top)
@@ -110,8 +103,8 @@ def somes_over_ands(turns, ands, elements, edges, true=False):
     d = linked(elements, edges)
     body = d.both() if true else d.concept(BOT)
     for _ in range(turns):
-        body = d.some(0, doubled(d, ands, body))
-    return d.with_axiom(DOMAIN, named(0), body).with_axiom(RANGE, named(0), doubled(d, 10, body))
+        body = d.some(0, d.doubled(ands, body))
+    return d.with_axiom(DOMAIN, named(0), body).with_axiom(RANGE, named(0), d.doubled(10, body))
 
 
 def somes_apart(somes, gap, elements, edges):

@@ -6,7 +6,7 @@ use crate::parts::Parts;
 use crate::reader::{NO_WORD, Refusal};
 use crate::rng::Rng;
 use crate::tally::Tally;
-use crate::{generate, large, reader, repeats};
+use crate::{generate, large, reader, repeats, sharing};
 
 const BOUND_NAMES: [&str; 3] = ["elements", "edges", "rounds"];
 const WIDE: u32 = 60;
@@ -34,6 +34,19 @@ pub fn deck(rng: &mut Rng, tally: &mut Tally) -> (Vec<u8>, Same) {
         Err(refusal) => refused(rng, tally, &deck, refusal),
         Ok(parts) => accepted(rng, tally, &deck, &parts),
     };
+    (deck, found)
+}
+
+/// A deck with Ands that share operands on purpose.
+pub fn shared(rng: &mut Rng, tally: &mut Tally) -> (Vec<u8>, Same) {
+    let mut parts = building_deck(rng);
+    let (places, most) = sharing::add(rng, &mut parts);
+    for place in places {
+        tally.add("shared Ands in", place, 1);
+    }
+    tally.add("longest walk", if most > 256 { "over 256 concepts" } else { "up to 256 concepts" }, 1);
+    let deck = parts.bytes();
+    let found = accepted(rng, tally, &deck, &parts);
     (deck, found)
 }
 

@@ -8,6 +8,7 @@
 //!
 //!     SEED COUNT FIRST        the same, from deck number FIRST on
 //!     large SEED COUNT        the same over decks of some hundred classes and some thousand edges
+//!     shared SEED COUNT       the same over decks with Ands that share operands, in each place where they are walked
 //!     replay SEED FOLDER      writes the original's answers to 300 decks as stdin and stdout of a program;
 //!                             `replay 7 ../../crates/test_replay` wrote the ones there
 //!     speed                   times both, phase by phase, and on decks at the limits
@@ -24,6 +25,7 @@ mod reader;
 mod repeats;
 mod replay;
 mod rng;
+mod sharing;
 mod speed;
 mod tally;
 
@@ -33,7 +35,7 @@ use tally::Tally;
 
 fn number(word: Option<&String>) -> u64 {
     word.and_then(|word| word.parse().ok()).unwrap_or_else(|| {
-        eprintln!("differential SEED COUNT [FIRST] | large SEED COUNT | replay SEED FOLDER | speed | extremes");
+        eprintln!("differential SEED COUNT [FIRST] | large SEED COUNT | shared SEED COUNT | replay SEED FOLDER | speed | extremes");
         std::process::exit(2)
     })
 }
@@ -83,6 +85,7 @@ fn main() {
             0
         }
         Some("large") => compare(compare::large, number(words.get(1)), number(words.get(2)), 0, &[]),
+        Some("shared") => compare(compare::shared, number(words.get(1)), number(words.get(2)), 0, &[]),
         _ => {
             let first = words.get(2).map_or(0, |_| number(words.get(2)));
             let count = number(words.get(1));
