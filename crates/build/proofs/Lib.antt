@@ -13,6 +13,7 @@ pub mod TargetLaws
 pub mod BuildLaws
 pub mod TailLaws
 pub mod BodyLaws
+pub mod OccurrenceLaws
 pub mod ExistsLaws
 pub mod AntecedentLaws
 pub mod GrowLaws

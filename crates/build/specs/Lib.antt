@@ -10,4 +10,5 @@ pub mod Walk
 pub mod Target
 pub mod Model
 pub mod Exists
+pub mod Occurrences
 pub mod Antecedent

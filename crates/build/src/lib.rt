@@ -6,6 +6,7 @@ pub mod exists;
 pub mod floor;
 pub mod intern;
 pub mod labels;
+pub mod occurrences;
 pub mod prints;
 pub mod push;
 pub mod reach;
