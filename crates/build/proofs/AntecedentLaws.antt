@@ -31,7 +31,7 @@ every-append [] ys = refl
 every-append (true ∷ xs) ys = every-append xs ys
 every-append (false ∷ xs) ys = refl
 
-every-flat : {A B : Type 0} (p : B → Bool) (f : A → List B) (l : List A) → every (map p (flatMap f l)) ≡ every (map (λ x. every (map p (f x))) l)
+pub every-flat : {A B : Type 0} (p : B → Bool) (f : A → List B) (l : List A) → every (map p (flatMap f l)) ≡ every (map (λ x. every (map p (f x))) l)
 unfolding every flatMap
 every-flat p f [] = refl
 every-flat p f (x ∷ xs) = rw (map-append p (f x) (flatMap f xs), every-append (map p (f x)) (map p (flatMap f xs)), every-flat p f xs)
@@ -40,7 +40,7 @@ some-append : (xs ys : List ℕ) → someIn (xs ++ ys) ≡ (someIn xs || someIn 
 some-append [] ys = refl
 some-append (x ∷ xs) ys = refl
 
-some-flat : {A : Type 0} (f : A → List ℕ) (l : List A) → someIn (flatMap f l) ≡ any (map (λ x. someIn (f x)) l)
+pub some-flat : {A : Type 0} (f : A → List ℕ) (l : List A) → someIn (flatMap f l) ≡ any (map (λ x. someIn (f x)) l)
 unfolding any flatMap
 some-flat f [] = refl
 some-flat f (x ∷ xs) = rw (some-append (f x) (flatMap f xs), some-flat f xs)

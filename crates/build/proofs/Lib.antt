@@ -17,3 +17,5 @@ pub mod OccurrenceLaws
 pub mod ExistsLaws
 pub mod AntecedentLaws
 pub mod GrowLaws
+pub mod LeafLaws
+pub mod JoinLaws

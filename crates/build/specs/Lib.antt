@@ -12,3 +12,4 @@ pub mod Model
 pub mod Exists
 pub mod Occurrences
 pub mod Antecedent
+pub mod Leaves

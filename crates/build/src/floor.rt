@@ -2,16 +2,21 @@
 ghost use mathlib.Core.Path.{_≡_};
 ghost use Prim.Native.Nat.{_+_, _*_, _%_, _^_, _<_, _≤_};
 ghost use mathlib.Core.List.{map, flatMap};
-ghost use lib.ListN.{length, getD};
+ghost use lib.ListN.{length, getD, replicate};
 ghost use Rattle.deck.specs.Content.{IsAccepted, deckOf};
 ghost use Rattle.deck.specs.Below.{anyBelow};
-ghost use Rattle.deck.specs.Deck.{Axiom, conceptCount, axiomCount, axiomAt};
+ghost use Rattle.deck.specs.Deck.{Axiom, conceptCount, conceptAt, axiomCount, axiomAt};
 ghost use Rattle.deck.specs.Reads.{listOf, ListFits};
-ghost use Rattle.eval.specs.Lists.{every, any};
+ghost use Rattle.eval.specs.Lists.{any};
 ghost use Rattle.eval.specs.Lent.{bit, labelWidth};
 ghost use Rattle.build.specs.Label.{insertAll};
+ghost use Rattle.build.specs.Leaves.{IsLeaf};
 ghost use Rattle.build.specs.Floor.{universal, atomRows, memberRows, floorOf, floorLabel, hasReal, floored};
 use crate::labels;
+use crate::leaves::Question;
+use crate::leaves::every_leaf;
+use crate::marks::mark_operands;
+use crate::marks::next_leaf;
 use crate::subsumers::insert_satisfiable;
 use deck::axioms::axiom_at;
 use deck::axioms::axiom_count;
@@ -28,30 +33,52 @@ pub fn is_universal_antecedent(deck: &[u8], concept: ConceptId) -> bool
     requires { ⌜ concept .0 < conceptCount (deckOf (now deck)) ⌝ }
     ensures { λ r. ⌜ r ≡ universal (deckOf (now (deck .entry))) (concept .0) ⌝ }
 {
+    let none: [u64; 1] = [0; 1];
+    every_leaf(deck, &none, 0, Question::Universal, concept)
+}
+
+// The label takes the row of a concept that is a satisfiable atom in.
+fn join_leaf(deck: &[u8], concept: ConceptId, label: &mut [u64])
+    requires { ⌜ IsAccepted (now deck) ⌝ }
+    requires { ⌜ concept .0 < conceptCount (deckOf (now deck)) ⌝ }
+    requires { ⌜ IsLeaf (conceptAt (deckOf (now deck)) (concept .0)) ⌝ }
+    requires { ⌜ length (now label) ≡ labelWidth (deckOf (now deck)) ⌝ }
+    ensures { λ _. ⌜ now (label .exit) ≡ insertAll (now (label .entry)) (atomRows (deckOf (now (deck .entry))) (concept .0)) ⌝ }
+{
     let expr = concept_at(deck, concept);
     match expr {
-        ConceptExpr::Top => true,
-        ConceptExpr::And(list) => all_universal(deck, concept, list),
-        _ => false,
+        ConceptExpr::Atomic(class) => insert_satisfiable(deck, class, label),
+        _ => {}
     }
 }
 
-// Is each concept of the list, all below `owner`?
-fn all_universal(deck: &[u8], owner: ConceptId, list: Span) -> bool
+// The same of all that the operands lead to, all below `owner`: by marks, none at first, so what is shared is joined once.
+fn join_marked(deck: &[u8], owner: ConceptId, list: Span, label: &mut [u64], marks: &mut [u64])
     requires { ⌜ IsAccepted (now deck) ⌝ }
     requires { ⌜ owner .0 < conceptCount (deckOf (now deck)) ⌝ }
     requires { ⌜ ListFits (now deck) (owner .0) list ⌝ }
-    ensures { λ r. ⌜ r ≡ every (map (universal (deckOf (now (deck .entry)))) (listOf (now (deck .entry)) list)) ⌝ }
+    requires { ⌜ length (now label) ≡ labelWidth (deckOf (now deck)) ⌝ }
+    requires { ⌜ now marks ≡ replicate 256 0 ⌝ }
+    ensures { λ _. ⌜ now (label .exit) ≡ insertAll (now (label .entry)) (flatMap (atomRows (deckOf (now (deck .entry)))) (listOf (now (deck .entry)) list)) ⌝ }
 {
-    let count = list.count;
-    let mut i = 0;
-    while i < count {
-        if !is_universal_antecedent(deck, ConceptId(item(deck, list, i))) {
-            return false;
-        }
-        i += 1;
+    mark_operands(deck, owner.0, list, 0, marks);
+    let mut k = next_leaf(deck, marks, owner.0);
+    while k < 16384 {
+        join_leaf(deck, ConceptId(k), label);
+        k = next_leaf(deck, marks, k);
     }
-    true
+}
+
+// The same, with marks of its own.
+fn join_operands(deck: &[u8], owner: ConceptId, list: Span, label: &mut [u64])
+    requires { ⌜ IsAccepted (now deck) ⌝ }
+    requires { ⌜ owner .0 < conceptCount (deckOf (now deck)) ⌝ }
+    requires { ⌜ ListFits (now deck) (owner .0) list ⌝ }
+    requires { ⌜ length (now label) ≡ labelWidth (deckOf (now deck)) ⌝ }
+    ensures { λ _. ⌜ now (label .exit) ≡ insertAll (now (label .entry)) (flatMap (atomRows (deckOf (now (deck .entry)))) (listOf (now (deck .entry)) list)) ⌝ }
+{
+    let mut marks: [u64; 256] = [0; 256];
+    join_marked(deck, owner, list, label, &mut marks);
 }
 
 // The label takes the rows of the concept's satisfiable required atoms in.
@@ -63,25 +90,8 @@ pub fn join_required_atoms(deck: &[u8], concept: ConceptId, label: &mut [u64])
 {
     let expr = concept_at(deck, concept);
     match expr {
-        ConceptExpr::Atomic(class) => insert_satisfiable(deck, class, label),
         ConceptExpr::And(list) => join_operands(deck, concept, list, label),
-        _ => {}
-    }
-}
-
-// The same of each concept of the list, all below `owner`.
-fn join_operands(deck: &[u8], owner: ConceptId, list: Span, label: &mut [u64])
-    requires { ⌜ IsAccepted (now deck) ⌝ }
-    requires { ⌜ owner .0 < conceptCount (deckOf (now deck)) ⌝ }
-    requires { ⌜ ListFits (now deck) (owner .0) list ⌝ }
-    requires { ⌜ length (now label) ≡ labelWidth (deckOf (now deck)) ⌝ }
-    ensures { λ _. ⌜ now (label .exit) ≡ insertAll (now (label .entry)) (flatMap (atomRows (deckOf (now (deck .entry)))) (listOf (now (deck .entry)) list)) ⌝ }
-{
-    let count = list.count;
-    let mut i = 0;
-    while i < count {
-        join_required_atoms(deck, ConceptId(item(deck, list, i)), label);
-        i += 1;
+        _ => join_leaf(deck, concept, label),
     }
 }
 

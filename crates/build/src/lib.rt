@@ -7,6 +7,8 @@ pub mod floor;
 pub mod intern;
 pub mod labels;
 pub mod occurrences;
+pub mod leaves;
+pub mod marks;
 pub mod prints;
 pub mod push;
 pub mod reach;

@@ -5,8 +5,8 @@ ghost use Prim.Native.Nat.{_+_, _≤_};
 ghost use lib.ListN.{length};
 ghost use Rattle.report.specs.Lines.{decimal, field, outcomeWord, witness, verdictText, summaryLine, verdictLine, refusalLine};
 ghost use Rattle.report.specs.Writes.{Wrote};
-use model::outcome::Outcome;
 use build::tally::Tally;
+use model::outcome::Outcome;
 
 pub fn put(buf: &mut [u8], at: usize, bytes: &[u8]) -> usize
     requires { ⌜ at + length (now bytes) ≤ length (now buf) ⌝ }

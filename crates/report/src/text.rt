@@ -13,10 +13,10 @@ ghost use Rattle.report.specs.Writes.{Wrote};
 use crate::lines::refusal_line;
 use crate::lines::summary_line;
 use crate::lines::verdict_line;
+use build::bounds::Bounds;
 use deck::axioms::axiom_count;
 use deck::refusal::Refusal;
 use deck::refusal::refusal_number;
-use build::bounds::Bounds;
 use model::run::RunAnswer;
 use model::run::run;
 

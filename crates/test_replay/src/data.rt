@@ -1,7 +1,7 @@
 // The data, in words (cases::words). Places are counted in words.
+use build::bounds::Bounds;
 use cases::words::after;
 use cases::words::word_or_0;
-use build::bounds::Bounds;
 
 // What a case begins with: its length and its deck's in words; how many words of labels and of verdicts the run
 // leaves, and how many concepts the deck has; the bounds and the last phase.

@@ -7,6 +7,7 @@
 mod compared;
 mod data;
 
+use build::tally::Tally;
 use cases::words::MOST;
 use cases::words::after;
 use cases::words::part;
@@ -18,7 +19,6 @@ use data::Asked;
 use libc::STDOUT_FILENO;
 use model::outcome::Outcome;
 use model::run::RunAnswer;
-use build::tally::Tally;
 ghost use mathlib.Core.Path.{_≡_};
 ghost use lib.ListN.{length};
 

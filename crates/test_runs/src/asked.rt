@@ -1,6 +1,6 @@
 // What a case asks for (main.rt has its form). Places are counted in words.
-use cases::words::word_or_0;
 use build::bounds::Bounds;
+use cases::words::word_or_0;
 ghost use Prim.Native.Nat.{_≤_};
 
 // What is asked of a run: its bounds, its last phase, and how much memory it is lent.

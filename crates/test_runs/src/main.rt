@@ -12,6 +12,7 @@ mod asked;
 mod marks;
 
 use asked::Asked;
+use build::tally::Tally;
 use cases::words::MOST;
 use cases::words::part;
 use cases::words::word_or_0;
@@ -22,7 +23,6 @@ use deck::refusal::refusal_word;
 use libc::STDOUT_FILENO;
 use model::outcome::Outcome;
 use model::run::RunAnswer;
-use build::tally::Tally;
 ghost use mathlib.Core.Path.{_≡_};
 ghost use lib.ListN.{length};
 
