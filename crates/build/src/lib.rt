@@ -17,3 +17,4 @@ pub mod seed;
 pub mod subsumers;
 pub mod tally;
 pub mod target_label;
+pub mod visits;
