@@ -19,3 +19,4 @@ pub mod AntecedentLaws
 pub mod GrowLaws
 pub mod LeafLaws
 pub mod JoinLaws
+pub mod LargeLaws

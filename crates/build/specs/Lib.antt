@@ -13,3 +13,4 @@ pub mod Exists
 pub mod Occurrences
 pub mod Antecedent
 pub mod Leaves
+pub mod Large

@@ -147,7 +147,7 @@ fn join_operands_atoms(
 }
 
 // The label takes the rows of r's range classes in.
-fn join_ranges(deck: &[u8], r: RoleId, label: &mut [u64])
+pub fn join_ranges(deck: &[u8], r: RoleId, label: &mut [u64])
     requires { ⌜ IsAccepted (now deck) ⌝ }
     requires { ⌜ r .0 < roleCount (deckOf (now deck)) ⌝ }
     requires { ⌜ length (now label) ≡ labelWidth (deckOf (now deck)) ⌝ }
