@@ -197,15 +197,7 @@ fn note_all(
     ensures { λ t. ⌜ logs (now (log .exit)) t ≡ notedAll (deckOf (now (deck .entry))) (r .0) (concept .0) (logs (now (log .entry)) reasons) ⌝ }
 {
     let mut table: [u32; 16384] = [0; 16384];
-    let total = note_counted(
-        deck,
-        r,
-        concept,
-        seen.delta,
-        &mut table,
-        log,
-        reasons,
-    );
+    let total = note_counted(deck, r, concept, seen.delta, &mut table, log, reasons);
     if !seen.unclosed {
         return total;
     }
