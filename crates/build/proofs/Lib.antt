@@ -13,9 +13,11 @@ pub mod TargetLaws
 pub mod BuildLaws
 pub mod TailLaws
 pub mod BodyLaws
+pub mod OccurrenceLaws
 pub mod ExistsLaws
 pub mod AntecedentLaws
 pub mod GrowLaws
 pub mod LeafLaws
 pub mod JoinLaws
 pub mod QuietLaws
+pub mod LargeLaws

@@ -10,6 +10,8 @@ pub mod Walk
 pub mod Target
 pub mod Model
 pub mod Exists
+pub mod Occurrences
 pub mod Antecedent
 pub mod Leaves
 pub mod Quiet
+pub mod Large

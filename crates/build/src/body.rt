@@ -11,11 +11,13 @@ ghost use Rattle.build.specs.Label.{insertAll};
 ghost use Rattle.build.specs.Walk.{walk};
 ghost use Rattle.build.specs.Exists.{body, met, rowOfClass, joinAtom, joinAtoms, bodyOf, Joined};
 use crate::labels;
+use crate::large::body_large;
 use crate::reasons::Reason;
 use crate::reasons::note;
 use crate::subsumers::insert_subsumers;
 use crate::target_label::Target;
 use crate::target_label::target_label;
+use crate::visits::visits;
 use deck::concepts::ConceptExpr;
 use deck::concepts::concept_at;
 use deck::numbers::ClassId;
@@ -147,7 +149,7 @@ fn join_operands_atoms(
 }
 
 // The label takes the rows of r's range classes in.
-fn join_ranges(deck: &[u8], r: RoleId, label: &mut [u64])
+pub fn join_ranges(deck: &[u8], r: RoleId, label: &mut [u64])
     requires { ⌜ IsAccepted (now deck) ⌝ }
     requires { ⌜ r .0 < roleCount (deckOf (now deck)) ⌝ }
     requires { ⌜ length (now label) ≡ labelWidth (deckOf (now deck)) ⌝ }
@@ -162,8 +164,8 @@ fn join_ranges(deck: &[u8], r: RoleId, label: &mut [u64])
     }
 }
 
-// The label becomes that of a body's target by r; the total of reasons after those of its atoms.
-pub fn body_label(
+// The label becomes that of a body's target by r, by a walk over every occurrence of its required atoms; the total of reasons after those.
+fn body_walked(
     deck: &[u8],
     r: RoleId,
     concept: ConceptId,
@@ -194,4 +196,25 @@ pub fn body_label(
     }
     let reason = Reason::label_not_closed(j.first, r);
     note(log, j.reasons, reason)
+}
+
+// The same: by a walk where that is short, and else by tables.
+pub fn body_label(
+    deck: &[u8],
+    r: RoleId,
+    concept: ConceptId,
+    label: &mut [u64],
+    log: &mut [u32],
+    reasons: u32,
+) -> u32
+    requires { ⌜ IsAccepted (now deck) ⌝ }
+    requires { ⌜ r .0 < roleCount (deckOf (now deck)) ⌝ }
+    requires { ⌜ concept .0 < conceptCount (deckOf (now deck)) ⌝ }
+    requires { ⌜ length (now label) ≡ labelWidth (deckOf (now deck)) ⌝ }
+    ensures { λ z. ⌜ Joined (now (label .exit)) (now (log .exit)) z (bodyOf (deckOf (now (deck .entry))) (r .0) (concept .0) (now (log .entry)) reasons) ⌝ }
+{
+    if visits(deck, concept, false, 256) > 0 {
+        return body_walked(deck, r, concept, label, log, reasons);
+    }
+    body_large(deck, r, concept, label, log, reasons)
 }

@@ -4,8 +4,8 @@ use mathlib.Core.Path.{_∙_, ap}
 use denote.Ref.{now}
 use lib.ListN.{length, length-replicate}
 use Rattle.build.proofs.BodyLaws.{close-none, close-all, close-open}
-use Rattle.build.proofs.body.body_label.Statement.{statement}
-use Rattle.build.proofs.body.body_label.Tie as tie
+use Rattle.build.proofs.body.body_walked.Statement.{statement}
+use Rattle.build.proofs.body.body_walked.Tie as tie
 
 clear-requires : tie.Need-clear-requires
 clear-requires c κs = search needs
@@ -57,7 +57,7 @@ returns-3 c =
     let z = c .before .before .before .before .before .before .before .before .before .before .before .before .before .before .before .before .before .before .before .before .before .before .before in
     close-open _ _ _ _ _ (now (z .args .label)) _ (c .before .before .before .before .before .before .before .before .before .before .before .before .before .before .before .before .before .before .clear .ensures) (z .pre .1 .1 .1) (c .before .before .before .before .before .before .before .before .before .before .before .before .before .join-atoms .ensures) (not-false _ (c .before .before .before .before .before .before .before .if1 .left)) (not-false _ (c .before .before .before .before .before .if2 .left)) (rw (c .before .before .before .before .label-not-closed .ensures) at (c .before .before .note .ensures .0)) (c .before .before .note .ensures .1)
 
-pub body-label-spec : {M : Type 1} → statement M
-body-label-spec =
+pub body-walked-spec : {M : Type 1} → statement M
+body-walked-spec =
     tie.close
     (tie.spec clear-requires join-atoms-requires join-ranges-requires same-length same-length-2 returns same-length-3 same-length-4 returns-2 label-not-closed-requires note-requires same-length-5 same-length-6 returns-3)
