@@ -1,7 +1,7 @@
 -- The occurrences of required atoms: tables over the concepts below, what noting a concept's RunDeltas does, and the first atom.
 -- Assumes nothing.
 use Prim.Native.Nat.{ℕ, _+_, _/_, _<_, _≤_}
-use mathlib.Core.Bool.{Bool, true, false, _&&_}
+use mathlib.Core.Bool.{Bool, true, false}
 use mathlib.Core.Path.{_≡_, refl, sym, ap, subst, _∙_}
 use mathlib.Core.List.{List, [], _∷_, _++_, flatMap, append-nil, List·Memᴰ as Member, List·Memᴰ·head as here, List·Memᴰ·tail as there}
 use native.Mathlib.Omega.{arith}
@@ -28,7 +28,7 @@ use Rattle.build.specs.declared.target_label.Target.{Target}
 use Rattle.build.specs.declared.target_label.Target.the-variants.{Row, Delta, NotClosed}
 use Rattle.build.specs.Walk.{walk}
 use Rattle.build.specs.Floor.{requiredAtoms}
-use Rattle.build.specs.Reasons.{noted, counted, Log, note, runDelta}
+use Rattle.build.specs.Reasons.{noted, counted, note, runDelta}
 use Rattle.build.specs.Target.{targetOf}
 use Rattle.build.specs.Exists.{deltaBy, atomDelta}
 use Rattle.build.specs.Occurrences.{capped, sumOf, entryAt, logs, hasRoom, deltasOf, deltaCount, notedDeltas, DeltasTo, IsFirst, FirstsTo}

@@ -4,12 +4,6 @@ use Rattle.build.proofs.LargeLaws.{seen-of, large-none, large-some}
 use borrow.Author.Needs.{needs}
 use Rattle.build.proofs.large.body_large.Statement.{statement}
 use Rattle.build.proofs.large.body_large.Tie as tie
-use Rattle.build.proofs.large.body_large.Reads as reads
-use Rattle.build.proofs.large.body_large.Lts as lts
-use Rattle.build.proofs.body.join_ranges.Reads as join-ranges-reads
-use Rattle.build.proofs.labels.clear.Reads as clear-reads
-use Rattle.build.proofs.large.join_leaves.Reads as join-leaves-reads
-use Rattle.build.proofs.large.note_all.Reads as note-all-reads
 
 clear-requires : tie.Need-clear-requires
 clear-requires c κs = search needs

@@ -4,10 +4,6 @@ use Rattle.build.proofs.LargeLaws.{took-row, took-delta, took-open}
 use borrow.Author.Needs.{needs}
 use Rattle.build.proofs.large.join_by.Statement.{statement}
 use Rattle.build.proofs.large.join_by.Tie as tie
-use Rattle.build.proofs.large.join_by.Reads as reads
-use Rattle.build.proofs.large.join_by.Lts as lts
-use Rattle.build.proofs.subsumers.insert_subsumers.Reads as insert-subsumers-reads
-use Rattle.build.proofs.target_label.target_label.Reads as target-label-reads
 
 target-label-requires : tie.Need-target-label-requires
 target-label-requires c κs = search needs

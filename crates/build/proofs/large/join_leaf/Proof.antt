@@ -4,10 +4,6 @@ use Rattle.build.proofs.LargeLaws.{leaf-atom, leaf-other}
 use borrow.Author.Needs.{needs}
 use Rattle.build.proofs.large.join_leaf.Statement.{statement}
 use Rattle.build.proofs.large.join_leaf.Tie as tie
-use Rattle.build.proofs.large.join_leaf.Reads as reads
-use Rattle.build.proofs.large.join_leaf.Lts as lts
-use Rattle.build.proofs.large.join_by.Reads as join-by-reads
-use Rattle.deck.proofs.concepts.concept_at.Reads as concept-at-reads
 
 concept-at-requires : tie.Need-concept-at-requires
 concept-at-requires c κs = search needs

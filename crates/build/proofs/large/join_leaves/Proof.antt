@@ -2,9 +2,6 @@ use mathlib.Core.Path.{refl}
 use borrow.Author.Needs.{needs}
 use Rattle.build.proofs.large.join_leaves.Statement.{statement}
 use Rattle.build.proofs.large.join_leaves.Tie as tie
-use Rattle.build.proofs.large.join_leaves.Reads as reads
-use Rattle.build.proofs.large.join_leaves.Lts as lts
-use Rattle.build.proofs.large.join_marked.Reads as join-marked-reads
 
 slice-aggregate-join-marked : tie.Need-slice-aggregate-join-marked
 slice-aggregate-join-marked c = search needs

@@ -4,7 +4,6 @@ use mathlib.Core.Bool.{cond}
 use native.Mathlib.Omega.{arith}
 use lib.ListN.{length, length-replicate}
 use lib.Dec.{ltb}
-use denote.Ref.{now}
 use Rattle.deck.specs.Content.{deckOf}
 use Rattle.deck.specs.Deck.{conceptCount, conceptAt}
 use Rattle.build.specs.Leaves.{IsLeaf}
@@ -16,11 +15,6 @@ use Rattle.build.proofs.LargeLaws.{coming, coming-start, coming-next, c
 use borrow.Author.Needs.{needs}
 use Rattle.build.proofs.large.join_marked.Statement.{statement}
 use Rattle.build.proofs.large.join_marked.Tie as tie
-use Rattle.build.proofs.large.join_marked.Reads as reads
-use Rattle.build.proofs.large.join_marked.Lts as lts
-use Rattle.build.proofs.labels.insert_bit.Reads as insert-bit-reads
-use Rattle.build.proofs.large.join_leaf.Reads as join-leaf-reads
-use Rattle.build.proofs.marks.next_leaf.Reads as next-leaf-reads
 
 abbrev Inv-loop : tie.InvT-loop
 Inv-loop deck r marks₀ label₀ k₀ seen₀ marks label k seen = (length marks ≡ 256) × (length label ≡ length label₀) × (k < 16384 → (k < conceptCount (deckOf deck)) × IsLeaf (conceptAt (deckOf deck) k)) × (coming (deckOf deck) (r .0) marks₀ k₀ (gathered label₀ seen₀) ≡ coming (deckOf deck) (r .0) marks k (gathered label seen))

@@ -8,10 +8,6 @@ use Rattle.build.proofs.LargeLaws.{all-closed, all-open}
 use borrow.Author.Needs.{needs}
 use Rattle.build.proofs.large.note_all.Statement.{statement}
 use Rattle.build.proofs.large.note_all.Tie as tie
-use Rattle.build.proofs.large.note_all.Reads as reads
-use Rattle.build.proofs.large.note_all.Lts as lts
-use Rattle.build.proofs.large.note_counted.Reads as note-counted-reads
-use Rattle.build.proofs.large.note_open.Reads as note-open-reads
 
 slice-aggregate-note-counted : tie.Need-slice-aggregate-note-counted
 slice-aggregate-note-counted c = search needs

@@ -5,10 +5,6 @@ use Rattle.build.proofs.LargeLaws.{quiet-deltas}
 use borrow.Author.Needs.{needs}
 use Rattle.build.proofs.large.note_counted.Statement.{statement}
 use Rattle.build.proofs.large.note_counted.Tie as tie
-use Rattle.build.proofs.large.note_counted.Reads as reads
-use Rattle.build.proofs.large.note_counted.Lts as lts
-use Rattle.build.proofs.occurrences.fill_deltas.Reads as fill-deltas-reads
-use Rattle.build.proofs.occurrences.note_deltas.Reads as note-deltas-reads
 
 returns : tie.Need-returns
 returns c =

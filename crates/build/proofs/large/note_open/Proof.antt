@@ -7,11 +7,6 @@ use Rattle.build.proofs.LargeLaws.{first-noted}
 use borrow.Author.Needs.{needs}
 use Rattle.build.proofs.large.note_open.Statement.{statement}
 use Rattle.build.proofs.large.note_open.Tie as tie
-use Rattle.build.proofs.large.note_open.Reads as reads
-use Rattle.build.proofs.large.note_open.Lts as lts
-use Rattle.build.proofs.occurrences.fill_firsts.Reads as fill-firsts-reads
-use Rattle.build.proofs.reasons.Reason.label_not_closed.Reads as label-not-closed-reads
-use Rattle.build.proofs.reasons.note.Reads as note-reads
 
 add-fill-firsts : tie.Need-add-fill-firsts
 add-fill-firsts c =

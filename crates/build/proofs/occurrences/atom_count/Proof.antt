@@ -2,9 +2,6 @@ use Rattle.build.proofs.OccurrenceLaws.{count-row, count-delta, count-o
 use borrow.Author.Needs.{needs}
 use Rattle.build.proofs.occurrences.atom_count.Statement.{statement}
 use Rattle.build.proofs.occurrences.atom_count.Tie as tie
-use Rattle.build.proofs.occurrences.atom_count.Reads as reads
-use Rattle.build.proofs.occurrences.atom_count.Lts as lts
-use Rattle.build.proofs.target_label.target_label.Reads as target-label-reads
 
 target-label-requires : tie.Need-target-label-requires
 target-label-requires c κs = search needs

@@ -5,11 +5,6 @@ use Rattle.build.proofs.OccurrenceLaws.{count-atomic, count-and, count-
 use borrow.Author.Needs.{needs}
 use Rattle.build.proofs.occurrences.delta_entry.Statement.{statement}
 use Rattle.build.proofs.occurrences.delta_entry.Tie as tie
-use Rattle.build.proofs.occurrences.delta_entry.Reads as reads
-use Rattle.build.proofs.occurrences.delta_entry.Lts as lts
-use Rattle.build.proofs.occurrences.atom_count.Reads as atom-count-reads
-use Rattle.build.proofs.occurrences.sum_entries.Reads as sum-entries-reads
-use Rattle.deck.proofs.concepts.concept_at.Reads as concept-at-reads
 
 concept-at-requires : tie.Need-concept-at-requires
 concept-at-requires c κs = search needs

@@ -10,9 +10,6 @@ use borrow.Author.Count.{below-none}
 use borrow.Author.Needs.{needs}
 use Rattle.build.proofs.occurrences.fill_deltas.Statement.{statement}
 use Rattle.build.proofs.occurrences.fill_deltas.Tie as tie
-use Rattle.build.proofs.occurrences.fill_deltas.Reads as reads
-use Rattle.build.proofs.occurrences.fill_deltas.Lts as lts
-use Rattle.build.proofs.occurrences.delta_entry.Reads as delta-entry-reads
 
 abbrev Inv-loop : tie.InvT-loop
 Inv-loop deck r table₀ count k₀ table k = (k ≤ count) × (length table ≡ length table₀) × DeltasTo (deckOf deck) (r .0) table k

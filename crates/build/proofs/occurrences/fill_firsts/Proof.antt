@@ -10,9 +10,6 @@ use Rattle.build.proofs.OccurrenceLaws.{table-more}
 use borrow.Author.Needs.{needs}
 use Rattle.build.proofs.occurrences.fill_firsts.Statement.{statement}
 use Rattle.build.proofs.occurrences.fill_firsts.Tie as tie
-use Rattle.build.proofs.occurrences.fill_firsts.Reads as reads
-use Rattle.build.proofs.occurrences.fill_firsts.Lts as lts
-use Rattle.build.proofs.occurrences.first_entry.Reads as first-entry-reads
 
 abbrev Inv-loop : tie.InvT-loop
 Inv-loop deck table₀ count k₀ table k = (k ≤ count) × (length table ≡ length table₀) × FirstsTo (deckOf deck) table k

@@ -5,10 +5,6 @@ use Rattle.build.proofs.OccurrenceLaws.{first-atomic, first-and, first-
 use borrow.Author.Needs.{needs}
 use Rattle.build.proofs.occurrences.first_entry.Statement.{statement}
 use Rattle.build.proofs.occurrences.first_entry.Tie as tie
-use Rattle.build.proofs.occurrences.first_entry.Reads as reads
-use Rattle.build.proofs.occurrences.first_entry.Lts as lts
-use Rattle.build.proofs.occurrences.first_in.Reads as first-in-reads
-use Rattle.deck.proofs.concepts.concept_at.Reads as concept-at-reads
 
 concept-at-requires : tie.Need-concept-at-requires
 concept-at-requires c κs = search needs

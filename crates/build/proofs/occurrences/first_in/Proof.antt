@@ -13,9 +13,6 @@ use Rattle.build.proofs.OccurrenceLaws.{first-at, first-end, first-step
 use borrow.Author.Needs.{needs}
 use Rattle.build.proofs.occurrences.first_in.Statement.{statement}
 use Rattle.build.proofs.occurrences.first_in.Tie as tie
-use Rattle.build.proofs.occurrences.first_in.Reads as reads
-use Rattle.build.proofs.occurrences.first_in.Lts as lts
-use Rattle.deck.proofs.rows.item.Reads as item-reads
 
 abbrev Inv-loop : tie.InvT-loop
 Inv-loop deck list table count i₀ i = (i ≤ count) × (flatMap (requiredAtoms (deckOf deck)) (listOf deck list) ≡ flatMap (requiredAtoms (deckOf deck)) (drop i (listOf deck list)))

@@ -1,8 +1,6 @@
 use borrow.Author.Tests.{lt-ltb, le-ltb}
 use Rattle.build.proofs.occurrences.has_room.Statement.{statement}
 use Rattle.build.proofs.occurrences.has_room.Tie as tie
-use Rattle.build.proofs.occurrences.has_room.Reads as reads
-use Rattle.build.proofs.occurrences.has_room.Lts as lts
 
 returns : tie.Need-returns
 returns c = rw (lt-ltb _ _ (c .if1 .taken))

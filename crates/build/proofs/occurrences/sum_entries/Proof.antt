@@ -2,7 +2,7 @@ use Prim.Native.Nat.{_+_, _-_, _≤_}
 use mathlib.Core.Path.{_≡_, sym, _∙_}
 use native.Mathlib.Omega.{arith}
 use denote.Ref.{now}
-use lib.ListN.{length, drop}
+use lib.ListN.{drop}
 use Rattle.deck.specs.Reads.{listOf}
 use Rattle.deck.proofs.TableLaws.{list-length}
 use Rattle.build.specs.Occurrences.{capped, sumOf, entryAt}
@@ -10,10 +10,6 @@ use Rattle.build.proofs.OccurrenceLaws.{sum-end, sum-step}
 use borrow.Author.Needs.{needs}
 use Rattle.build.proofs.occurrences.sum_entries.Statement.{statement}
 use Rattle.build.proofs.occurrences.sum_entries.Tie as tie
-use Rattle.build.proofs.occurrences.sum_entries.Reads as reads
-use Rattle.build.proofs.occurrences.sum_entries.Lts as lts
-use Rattle.build.proofs.occurrences.add_capped.Reads as add-capped-reads
-use Rattle.deck.proofs.rows.item.Reads as item-reads
 
 abbrev Inv-loop : tie.InvT-loop
 Inv-loop deck list table count sum₀ i₀ sum i = (i ≤ count) × (sum ≤ 4294967295) × (capped (sumOf (entryAt table) (listOf deck list)) ≡ capped (sum + sumOf (entryAt table) (drop i (listOf deck list))))
