@@ -21,17 +21,17 @@ use Rattle.eval.specs.Lists.{range}
 use Rattle.build.specs.declared.bounds.Bounds.{Bounds}
 use Rattle.build.specs.declared.tally.Tally.{Tally}
 use Rattle.build.specs.declared.tally.Step.{Step}
-use Rattle.build.specs.declared.reasons.Reason.{Reason}
-use Rattle.build.specs.Walk.{walk}
-use Rattle.build.specs.Rows.{rowsOf}
+use Rattle.atoms.specs.declared.reasons.Reason.{Reason}
+use Rattle.atoms.specs.Walk.{walk}
+use Rattle.atoms.specs.Rows.{rowsOf}
 use Rattle.build.specs.Intern.{interned, Placed, Held}
-use Rattle.build.specs.Reasons.{noted, counted, boundTripped}
+use Rattle.atoms.specs.Reasons.{noted, counted, boundTripped}
 use Rattle.build.specs.Push.{State, edge, pushEdge, start, quiet, Left, Room}
 use Rattle.build.specs.Model.{Model, noteState, tripState, noteIn, tripIn, reach, Buffers, lent, begun, top, among, Prepared, Built}
-use Rattle.build.proofs.RowLaws.{length-rows}
+use Rattle.atoms.proofs.RowLaws.{length-rows}
 use Rattle.build.proofs.InternLaws.{held-start, held-rows, held-length, held-on, held-intern, interned-grows}
 use Rattle.build.proofs.PushLaws.{left-same, left-trans, left-start, left-quiet, left-tripped, left-room, noted-length}
-use Rattle.build.proofs.WalkLaws.{On, done, stop, onward}
+use Rattle.atoms.proofs.WalkLaws.{On, done, stop, onward}
 
 -- ---- the larger of N and the bound
 larger-left : (a b : ℕ) → a ≤ cond (ltb a b) b a

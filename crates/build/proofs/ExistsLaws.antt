@@ -28,15 +28,16 @@ use Rattle.eval.proofs.Steps.{each-below}
 use Rattle.build.specs.declared.bounds.Bounds.{Bounds}
 use Rattle.build.specs.declared.tally.Tally.{Tally}
 use Rattle.build.specs.declared.tally.Step.{Step}
-use Rattle.build.specs.Walk.{walk}
-use Rattle.build.specs.Floor.{floored}
+use Rattle.atoms.specs.Walk.{walk}
+use Rattle.atoms.specs.Floor.{floored}
 use Rattle.build.specs.Intern.{indexOf}
 use Rattle.build.specs.Push.{quiet}
 use Rattle.build.specs.Model.{Model, reach, Buffers, lent, begun, Prepared, Built}
-use Rattle.build.specs.Exists.{Joined, bodyOf, bodyLabel, reachBody, workOf, workStep, idle, work}
-use Rattle.build.proofs.FloorLaws.{read-is, fits-read}
+use Rattle.build.specs.Exists.{bodyLabel, reachBody, workOf, workStep, idle, work}
+use Rattle.atoms.specs.Body.{Joined, bodyOf}
+use Rattle.atoms.proofs.FloorLaws.{read-is, fits-read}
 use Rattle.build.proofs.PushLaws.{left-same}
-use Rattle.build.proofs.WalkLaws.{walk-same}
+use Rattle.atoms.proofs.WalkLaws.{walk-same}
 use Rattle.build.proofs.BuildLaws.{built-same, built-is, built-quiet, built-start, built-trans, built-tripped, prepared-after}
 
 module _ (D : Deck) (floor : List ℕ) (B : Bounds) where

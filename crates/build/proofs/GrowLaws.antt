@@ -19,18 +19,19 @@ use Rattle.eval.specs.Edges.{edgeIn}
 use Rattle.eval.specs.Numbered.{numbered, below}
 use Rattle.eval.proofs.Clash.{clash}
 use Rattle.build.specs.declared.bounds.Bounds.{Bounds}
-use Rattle.build.specs.declared.reasons.Reason.{Reason}
-use Rattle.build.specs.Walk.{walk}
+use Rattle.atoms.specs.declared.reasons.Reason.{Reason}
+use Rattle.atoms.specs.Walk.{walk}
 use Rattle.build.specs.Intern.{indexOf, interned}
-use Rattle.build.specs.Floor.{requiredAtoms}
-use Rattle.build.specs.Reasons.{boundTripped, counted, Log, note}
+use Rattle.atoms.specs.Floor.{requiredAtoms}
+use Rattle.atoms.specs.Reasons.{boundTripped, counted, Log, note}
 use Rattle.build.specs.Push.{State, edge, added, pushEdge}
 use Rattle.build.specs.Model.{Model, tripState, reach}
 use Rattle.build.specs.Quiet.{modelSize, LiveModel}
-use Rattle.build.specs.Exists.{Body, reasonsOf, bodyIn, bodyLabel, withReasons, reachBody, workOf, workStep, idle, work}
+use Rattle.build.specs.Exists.{bodyIn, bodyLabel, withReasons, reachBody, workOf, workStep, idle, work}
+use Rattle.atoms.specs.Body.{Body, reasonsOf}
 use Rattle.build.proofs.InternLaws.{interned-known, interned-new, interned-grows, by-cond}
-use Rattle.build.proofs.BodyLaws.{body-reasons}
-use Rattle.build.proofs.WalkLaws.{walk-keeps}
+use Rattle.atoms.proofs.BodyLaws.{body-reasons}
+use Rattle.atoms.proofs.WalkLaws.{walk-keeps}
 
 -- the size does not fall, and where it stands, and what is left is live, nothing has changed
 pub record Grows {S : Type 0} (size : S → ℕ) (Live : S → Type 0) (s t : S) : Type 0 where

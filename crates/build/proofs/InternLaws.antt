@@ -4,7 +4,7 @@ use mathlib.Core.Bool.{Bool, true, false, cond}
 use mathlib.Core.List.{List, [], _∷_, _++_, append-assoc, append-nil, List·Memᴰ, List·Memᴰ·head, List·Memᴰ·tail, Memᴰ·append-left, Memᴰ·append-right}
 use mathlib.Core.Logic.{_⊎_, inl, inr}
 use Rattle.deck.proofs.CaseLaws.{lt-or-le}
-use Rattle.build.proofs.LabelLaws.{same-eq, row-word}
+use Rattle.atoms.proofs.LabelLaws.{same-eq, row-word}
 use Prim.Native.Nat.{ℕ, zero, suc, _+_, _*_, _/_, _%_, _≤_, _<_}
 use native.Mathlib.Omega.{arith}
 use lib.ListN.{length, getD, length-append, List·getD-append}
@@ -13,10 +13,10 @@ use native.Mathlib.Nat.{mul-le-mul-right}
 use lib.Dec.{ltb}
 use borrow.Author.Tests.{lt-ltb, le-ltb}
 use Rattle.eval.specs.Lent.{bit, memberIn}
-use Rattle.build.specs.Label.{sameLabel, labelHas}
-use Rattle.build.specs.Rows.{put, flat, rowAt, rowsOf, Wide, none, more}
+use Rattle.atoms.specs.Label.{sameLabel, labelHas}
+use Rattle.atoms.specs.Rows.{put, flat, rowAt, rowsOf, Wide, none, more}
 use Rattle.build.specs.Intern.{indexOf, interned, Placed, Held}
-use Rattle.build.proofs.RowLaws.{wide-append, length-rows, rows-at, rows-wide, flat-rows, length-flat, put-self, put-put, put-nil, length-put, rows-put, appended}
+use Rattle.atoms.proofs.RowLaws.{wide-append, length-rows, rows-at, rows-wide, flat-rows, length-flat, put-self, put-put, put-nil, length-put, rows-put, appended}
 
 -- the first row that is the label
 pub index-found : (ls : List (List ℕ)) (l : List ℕ) (e : ℕ) → e < length ls → ((k : ℕ) → k < e → sameLabel (getD ls k []) l ≡ false) → sameLabel (getD ls e []) l ≡ true → indexOf ls l ≡ e
@@ -163,11 +163,6 @@ extends-length {ls} {ms} h = omega (arith, ap length (h .is), length-append ls (
 -- an element keeps its label
 pub extends-at : {ls ms : List (List ℕ)} → Extends ls ms → (e : ℕ) → e < length ls → getD ms e [] ≡ getD ls e []
 extends-at {ls} {ms} h e b = ap (λ (r : List (List ℕ)). getD r e []) (h .is) ∙ List·getD-append ls (h .more) [] e b
-
--- a label's class, read off the buffer
-pub label-member : (w n : ℕ) (buf : List ℕ) (e k : ℕ) → e < n → k / 64 < w → labelHas (getD (rowsOf w n buf) e []) k ≡ memberIn buf w e k
-unfolding labelHas memberIn
-label-member w n buf e k h l = rw (rows-at w n buf e h, row-word w buf (e * w) (k / 64) l)
 
 -- a label's class, read off the buffer that holds the labels
 pub member-label : {w : ℕ} {ls : List (List ℕ)} → Wide w ls → (buf : List ℕ) (e k : ℕ) → e < length ls → k / 64 < w → memberIn (put buf (flat ls)) w e k ≡ labelHas (getD ls e []) k

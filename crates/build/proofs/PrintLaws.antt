@@ -13,12 +13,12 @@ use lib.Dec.{eqb}
 use borrow.Author.Tests.{eq-eqb, ne-eqb, eqb-true}
 use Rattle.deck.proofs.CaseLaws.{lt-or-le}
 use Rattle.eval.proofs.Clash.{both-ways}
-use Rattle.build.specs.Label.{sameLabel}
-use Rattle.build.specs.Rows.{rowAt, rowsOf}
+use Rattle.atoms.specs.Label.{sameLabel}
+use Rattle.atoms.specs.Rows.{rowAt, rowsOf}
 use Rattle.build.specs.Intern.{indexOf, interned}
 use Rattle.build.specs.Prints.{mixed, printTo, slotOf, Last, Chained}
-use Rattle.build.proofs.LabelLaws.{not-so, same-eq}
-use Rattle.build.proofs.RowLaws.{length-rows, rows-at, rows-more}
+use Rattle.atoms.proofs.LabelLaws.{not-so, same-eq}
+use Rattle.atoms.proofs.RowLaws.{length-rows, rows-at, rows-more}
 use Rattle.build.proofs.InternLaws.{index-found, index-none, interned-known, interned-new}
 
 -- ---- the fingerprint, word by word

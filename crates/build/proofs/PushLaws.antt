@@ -15,17 +15,14 @@ use borrow.Author.Tests.{ltb-false}
 use Rattle.eval.specs.declared.edges.Edge.{Edge}
 use Rattle.eval.specs.Edges.{edgeOf, edgesOf, rowOf, edgeIn}
 use Rattle.eval.proofs.EdgeWalks.{edges-length}
-use Rattle.build.specs.declared.reasons.Reason.{Reason}
+use Rattle.atoms.specs.declared.reasons.Reason.{Reason}
 use Rattle.build.specs.declared.tally.Tally.{Tally}
 use Rattle.build.specs.declared.tally.Step.{Step}
-use Rattle.build.specs.Reasons.{logged, noted, counted, boundTripped}
+use Rattle.atoms.proofs.ListWalks.{map-append}
+use Rattle.atoms.specs.Reasons.{logged, noted, counted, boundTripped}
 use Rattle.build.specs.Push.{State, added, pushEdge, reached, quiet, start, stored, Room, Left}
 
 -- ---- lists
-pub map-append : {A B : Type 0} (f : A → B) (xs ys : List A) → map f (xs ++ ys) ≡ map f xs ++ map f ys
-map-append f [] ys = refl
-map-append f (x ∷ xs) ys = ap (λ l. f x ∷ l) (map-append f xs ys)
-
 map-take : {A B : Type 0} (f : A → B) (n : ℕ) (xs : List A) → map f (take n xs) ≡ take n (map f xs)
 map-take f zero xs = refl
 map-take f (suc n) [] = refl

@@ -29,7 +29,7 @@ use Rattle.build.specs.declared.tally.Step.{Step}
 use Rattle.build.specs.Model.{Model, Buffers, begun, Prepared, Built}
 use Rattle.build.specs.Exists.{reachBody, work}
 use Rattle.build.specs.Quiet.{unchanged, sizeOf, modelSize, LiveModel, wordOf, Worded, Known, Quiet, Marked, Kept}
-use Rattle.build.proofs.RowLaws.{length-rows}
+use Rattle.atoms.proofs.RowLaws.{length-rows}
 use Rattle.build.proofs.BuildLaws.{built-start}
 use Rattle.build.proofs.GrowLaws.{Builds, reach-body-grows, work-grows}
 

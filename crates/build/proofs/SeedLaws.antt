@@ -17,15 +17,15 @@ use Rattle.deck.proofs.BelowLaws.{any-stops}
 use Rattle.eval.specs.Lists.{any}
 use Rattle.eval.specs.Lent.{labelWidth, memberIn}
 use Rattle.eval.proofs.ListLaws.{position}
-use Rattle.build.specs.Label.{labelHas, insertBit, insertAll, labelOf}
-use Rattle.build.specs.Rows.{put, flat, rowsOf, Wide, none}
+use Rattle.atoms.specs.Label.{labelHas, insertBit, insertAll, labelOf}
+use Rattle.atoms.specs.Rows.{put, flat, rowsOf, Wide, none}
 use Rattle.build.specs.Intern.{interned, Placed, Held}
-use Rattle.build.specs.Floor.{hasReal}
+use Rattle.atoms.specs.Floor.{hasReal}
 use Rattle.build.specs.Prints.{Chained}
 use Rattle.build.specs.Seed.{names, endsOf, Named, isSeeded, rowLabel, seeds, lastLabel, HasRow}
-use Rattle.build.proofs.LabelLaws.{length-label-of}
-use Rattle.build.proofs.MemberLaws.{has-label}
-use Rattle.build.proofs.FloorLaws.{floor-off, length-floored}
+use Rattle.atoms.proofs.LabelLaws.{length-label-of}
+use Rattle.atoms.proofs.MemberLaws.{has-label}
+use Rattle.atoms.proofs.FloorLaws.{floor-off, length-floored}
 use Rattle.build.proofs.InternLaws.{by-cond, Extends, extends-length, extends-at, member-label, interned-wide, interned-grows, held-none, held-intern, held-rows, interned-keeps, interned-has}
 
 -- ---- which classes

@@ -5,8 +5,8 @@ use mathlib.Core.Bool.{cond}
 use mathlib.Core.List.{List, [], _∷_, _++_}
 use lib.ListN.{length}
 use lib.Dec.{ltb}
-use Rattle.build.specs.Label.{sameLabel}
-use Rattle.build.specs.Rows.{put, flat, Wide}
+use Rattle.atoms.specs.Label.{sameLabel}
+use Rattle.atoms.specs.Rows.{put, flat, Wide}
 
 -- the element of a label: its first place, or the number of labels
 unfoldable pub indexOf : List (List ℕ) → List ℕ → ℕ

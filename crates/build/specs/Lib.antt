@@ -1,17 +1,7 @@
-pub mod Label
-pub mod Rows
 pub mod Intern
 pub mod Prints
-pub mod Floor
 pub mod Seed
-pub mod Reasons
 pub mod Push
-pub mod Walk
-pub mod Target
 pub mod Model
 pub mod Exists
-pub mod Occurrences
-pub mod Antecedent
-pub mod Leaves
 pub mod Quiet
-pub mod Large

@@ -11,10 +11,10 @@ use Rattle.eval.specs.Lent.{labelWidth}
 use Rattle.build.specs.declared.bounds.Bounds.{Bounds}
 use Rattle.build.specs.declared.tally.Tally.{Tally}
 use Rattle.build.specs.declared.tally.Step.{Step}
-use Rattle.build.specs.declared.reasons.Reason.{Reason}
-use Rattle.build.specs.Rows.{rowsOf}
+use Rattle.atoms.specs.declared.reasons.Reason.{Reason}
+use Rattle.atoms.specs.Rows.{rowsOf}
 use Rattle.build.specs.Intern.{indexOf, interned, Held}
-use Rattle.build.specs.Reasons.{boundTripped, noted, counted}
+use Rattle.atoms.specs.Reasons.{boundTripped, noted, counted}
 use Rattle.build.specs.Push.{State, edge, pushEdge, start, Room, Left}
 
 -- the labels of the elements, and the edges, reasons and trip beside them

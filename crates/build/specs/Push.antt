@@ -11,7 +11,7 @@ use Rattle.eval.specs.declared.edges.Edge.{Edge}
 use Rattle.eval.specs.Edges.{edgesOf, rowOf, edgeIn}
 use Rattle.build.specs.declared.tally.Tally.{Tally}
 use Rattle.build.specs.declared.tally.Step.{Step}
-use Rattle.build.specs.Reasons.{boundTripped, noted, counted}
+use Rattle.atoms.specs.Reasons.{boundTripped, noted, counted}
 
 -- the edges so far, oldest first, the words of the log, the total of reasons, and whether a bound has tripped
 pub record State : Type 0 where

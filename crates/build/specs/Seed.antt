@@ -8,10 +8,10 @@ use lib.Dec.{eqb, ltb}
 use Rattle.deck.specs.Deck.{Deck, Fact, classAt, classCount, has}
 use Rattle.eval.specs.Lists.{any}
 use Rattle.eval.specs.Lent.{labelWidth}
-use Rattle.build.specs.Label.{labelHas, labelOf}
-use Rattle.build.specs.Rows.{put, flat}
+use Rattle.atoms.specs.Label.{labelHas, labelOf}
+use Rattle.atoms.specs.Rows.{put, flat}
 use Rattle.build.specs.Intern.{interned}
-use Rattle.build.specs.Floor.{floored}
+use Rattle.atoms.specs.Floor.{floored}
 
 -- a class "of a fact"
 unfoldable pub names : ℕ → Fact → Bool

@@ -5,13 +5,13 @@ ghost use mathlib.Core.Path.{_≡_};
 ghost use Prim.Native.Nat.{_+_, _*_, _<_, _≤_};
 ghost use lib.ListN.{length};
 ghost use lib.Seq.{paste};
-ghost use Rattle.build.specs.Rows.{rowAt, rowsOf};
-ghost use Rattle.build.specs.Label.{sameLabel};
+ghost use Rattle.atoms.specs.Rows.{rowAt, rowsOf};
+ghost use Rattle.atoms.specs.Label.{sameLabel};
 ghost use Rattle.build.specs.Intern.{indexOf, Placed};
 ghost use Rattle.deck.specs.Content.{IsAccepted, deckOf};
 ghost use Rattle.eval.specs.Lent.{labelWidth};
-ghost use Rattle.build.specs.Floor.{floored};
-use crate::floor::apply_floor;
+ghost use Rattle.atoms.specs.Floor.{floored};
+use atoms::floor::apply_floor;
 use deck::numbers::Element;
 
 // The element of a label, and how many there are now.

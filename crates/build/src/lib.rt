@@ -1,22 +1,10 @@
-// What building a structure is made of: labels, reasons, edges, the floor, seeding, and building out a consequent: document 01, sections 2 and 3.
-pub mod antecedent;
-pub mod body;
+// What building a structure is made of: elements by their labels, edges, seeding, and building out a consequent: document 01, section 3.
 pub mod bounds;
 pub mod exists;
-pub mod floor;
 pub mod intern;
-pub mod labels;
-pub mod large;
-pub mod leaves;
-pub mod marks;
-pub mod occurrences;
 pub mod prints;
 pub mod push;
 pub mod quiet;
 pub mod reach;
-pub mod reasons;
 pub mod seed;
-pub mod subsumers;
 pub mod tally;
-pub mod target_label;
-pub mod visits;

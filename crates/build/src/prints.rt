@@ -5,15 +5,15 @@ ghost use Prim.Native.Nat.{_+_, _*_, _<_, _≤_};
 ghost use lib.ListN.{length, getD, set};
 ghost use Rattle.deck.specs.Content.{IsAccepted, deckOf};
 ghost use Rattle.eval.specs.Lent.{labelWidth};
-ghost use Rattle.build.specs.Rows.{rowsOf};
-ghost use Rattle.build.specs.Floor.{floored};
+ghost use Rattle.atoms.specs.Rows.{rowsOf};
+ghost use Rattle.atoms.specs.Floor.{floored};
 ghost use Rattle.build.specs.Intern.{indexOf, interned, Placed};
 ghost use Rattle.build.specs.Prints.{mixed, printTo, slotOf, Chained};
-use crate::floor::apply_floor;
 use crate::intern::Interned;
 use crate::intern::row_start;
 use crate::intern::same_label;
 use crate::intern::store;
+use atoms::floor::apply_floor;
 use deck::numbers::Element;
 
 // A fingerprint takes word w of place i in.

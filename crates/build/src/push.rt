@@ -6,10 +6,10 @@ ghost use lib.ListN.{length, set};
 ghost use Rattle.eval.specs.Edges.{rowOf, edgesOf, isEdge, edgeIn};
 ghost use Rattle.build.specs.Push.{Tail};
 ghost use Rattle.build.specs.Push.{Left, Room, added, pushEdge, start};
-use crate::reasons::Reason;
-use crate::reasons::note;
 use crate::tally::Step;
 use crate::tally::Tally;
+use atoms::reasons::Reason;
+use atoms::reasons::note;
 use eval::edges::Edge;
 use eval::edges::edge_at;
 

@@ -34,11 +34,11 @@ use Rattle.build.specs.declared.bounds.Bounds.{Bounds}
 use Rattle.model.specs.declared.outcome.Outcome.{Outcome}
 use Rattle.build.specs.declared.tally.Tally.{Tally}
 use Rattle.model.specs.declared.run.RunAnswer.{RunAnswer}
-use Rattle.build.specs.Rows.{put}
+use Rattle.atoms.specs.Rows.{put}
 use Rattle.model.specs.Run as model
 use Rattle.model.specs.Run.{Ran, ran, shapeIn}
 use Rattle.model.specs.Trust.{Trusted}
-use Rattle.build.proofs.RowLaws.{put-take}
+use Rattle.atoms.proofs.RowLaws.{put-take}
 use Rattle.model.proofs.JudgingLaws.{put-sets, four-words}
 use Rattle.capi.specs.Words.{Told, told, refused, given, deckWord, judgementWords, judgementTold, verdictTold, summaryWords, summaryTold}
 use Rattle.capi.specs.Calls.{checkDeck, evalConcept, checkAxiom, called, calledFor, run}

@@ -7,15 +7,15 @@ use Rattle.deck.specs.Content.{deckOf}
 use Rattle.deck.specs.declared.numbers.ClassId.{ClassId}
 use Rattle.eval.specs.Lent.{labelWidth}
 use Rattle.build.specs.declared.bounds.Bounds.{Bounds}
-use Rattle.build.specs.declared.reasons.Reason.{Reason}
+use Rattle.atoms.specs.declared.reasons.Reason.{Reason}
 use Rattle.build.specs.declared.tally.Tally.{Tally}
-use Rattle.build.specs.declared.target_label.Target.{Target}
-use Rattle.build.specs.declared.target_label.Target.the-variants.{Row, Delta}
-use Rattle.build.specs.Rows.{rowsOf}
+use Rattle.atoms.specs.declared.target_label.Target.{Target}
+use Rattle.atoms.specs.declared.target_label.Target.the-variants.{Row, Delta}
+use Rattle.atoms.specs.Rows.{rowsOf}
 use Rattle.build.specs.Seed.{rowLabel}
-use Rattle.build.specs.Reasons.{runDelta, noted, counted}
+use Rattle.atoms.specs.Reasons.{runDelta, noted, counted}
 use Rattle.build.specs.Push.{quiet}
-use Rattle.build.specs.Target.{TargetFits}
+use Rattle.atoms.specs.Target.{TargetFits}
 use Rattle.build.specs.Model.{Buffers, lent, begun, Prepared, Built, reach}
 use Rattle.model.specs.FactIndex.{Recalled}
 use Rattle.build.specs.Push.{Tail}

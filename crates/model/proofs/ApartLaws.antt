@@ -14,20 +14,20 @@ use Rattle.eval.specs.Lists.{any, range}
 use Rattle.eval.specs.declared.edges.Edge.{Edge}
 use Rattle.eval.specs.Edges.{edgesOf, edgeIn}
 use Rattle.build.specs.declared.bounds.Bounds.{Bounds}
-use Rattle.build.specs.declared.target_label.Target.{Target}
-use Rattle.build.specs.declared.target_label.Target.the-variants.{Row, Delta, NotClosed}
-use Rattle.build.specs.Label.{labelHas, insertBit}
+use Rattle.atoms.specs.declared.target_label.Target.{Target}
+use Rattle.atoms.specs.declared.target_label.Target.the-variants.{Row, Delta, NotClosed}
+use Rattle.atoms.specs.Label.{labelHas, insertBit}
 use Rattle.build.specs.Seed.{rowLabel}
 use Rattle.build.specs.Intern.{interned, indexOf}
-use Rattle.build.specs.Reasons.{boundTripped, runDelta}
-use Rattle.build.specs.Target.{targetOf}
+use Rattle.atoms.specs.Reasons.{boundTripped, runDelta}
+use Rattle.atoms.specs.Target.{targetOf}
 use Rattle.build.specs.Push.{State, edge, added, pushEdge, leavesAny, Tail}
 use Rattle.build.specs.Model.{Model, noteIn, tripState, reach}
 use Rattle.model.specs.Expand.{highest, linkTarget, workFact, factStep, workFacts, classStep, workClasses}
 use Rattle.build.proofs.TailLaws.{or-both, any-append, tail-none}
 use Rattle.build.proofs.InternLaws.{by-cond}
-use Rattle.build.proofs.WalkLaws.{walk-keeps}
-use Rattle.build.proofs.MemberLaws.{has-insert}
+use Rattle.atoms.proofs.WalkLaws.{walk-keeps}
+use Rattle.atoms.proofs.MemberLaws.{has-insert}
 use Rattle.model.proofs.ExpandLaws.{facts-in-order, highest-is}
 
 -- ---- a turn of e adds no edge from x

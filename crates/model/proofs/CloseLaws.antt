@@ -27,10 +27,10 @@ use Rattle.build.specs.declared.tally.Tally.{Tally}
 use Rattle.build.specs.declared.tally.Step.{Step}
 use Rattle.build.specs.Push.{State, edge, added, pushEdge, Left}
 use Rattle.model.specs.Rules.{ruleOf, RuleFits}
-use Rattle.build.specs.Walk.{walk}
+use Rattle.atoms.specs.Walk.{walk}
 use Rattle.model.specs.Closing.{graph, join, closeFrom, closeRule, closeBy, closeAxiom, closePass, EdgesFit, Ready}
 use Rattle.build.proofs.PushLaws.{left-room, left-edges}
-use Rattle.build.proofs.WalkLaws.{walk-keeps, walk-fixed, walk-placed}
+use Rattle.atoms.proofs.WalkLaws.{walk-keeps, walk-fixed, walk-placed}
 
 -- ---- the edges of a state
 rows-edges : (es : List Edge) → map edgeOf (map rowOf es) ≡ es

@@ -28,9 +28,9 @@ use Rattle.model.specs.declared.rules.Rule.{Rule}
 use Rattle.model.specs.declared.rules.Rule.the-variants.{Compose, NoRule}
 use Rattle.build.specs.Push.{State, edge, added, pushEdge}
 use Rattle.model.specs.Rules.{links, chainRule, ruleOf}
-use Rattle.build.specs.Walk.{walk}
+use Rattle.atoms.specs.Walk.{walk}
 use Rattle.model.specs.Closing.{graph, join, closeFrom, closeRule, closeAxiom, closePass, closing, close, EdgesFit}
-use Rattle.build.proofs.WalkLaws.{walk-keeps}
+use Rattle.atoms.proofs.WalkLaws.{walk-keeps}
 use Rattle.model.proofs.RuleLaws.{rule-fits-in}
 use Rattle.model.proofs.CloseLaws.{pass-in-order, linked-is, linked-fits, join-stuck, join-new, join-grows, from-stuck, from-grows, axiom-stuck, axiom-grows, axiom-by, Keeps, KeepsBy, pass-keeps, Bound, bound-keeps, fits-keeps, FitState, Grows, grows-length, walk-grows}
 use Rattle.model.proofs.Passes.{ends, goes-on, close-step}

@@ -6,10 +6,10 @@ use Rattle.deck.specs.Deck.{Deck, Role, Axiom, has}
 use Rattle.eval.specs.Lists.{range, keep, any}
 use Rattle.eval.specs.Structure.{hasEdge, successors, pairs}
 use Rattle.eval.specs.Edges.{edgeIn}
-use Rattle.build.specs.Reasons.{noted, counted}
+use Rattle.atoms.specs.Reasons.{noted, counted}
 use Rattle.build.specs.Push.{State, edge, pushEdge}
 use Rattle.model.specs.Rules.{ruleOf}
-use Rattle.build.specs.Walk.{walk}
+use Rattle.atoms.specs.Walk.{walk}
 use Rattle.model.specs.Closing.{join, closeFrom, closeRule, closeAxiom, closePass, closing, close}
 
 -- role 0 is transitive, and role 1, which has both in its row, then role 0 makes role 1; an inverse word makes no rule

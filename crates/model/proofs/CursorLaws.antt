@@ -8,9 +8,9 @@ use lib.ListN.{length}
 use lib.Dec.{eqb}
 use borrow.Author.Tests.{eq-eqb, eqb-true}
 use Rattle.eval.proofs.Clash.{clash}
-use Rattle.build.specs.Label.{labelHas, insertBit}
+use Rattle.atoms.specs.Label.{labelHas, insertBit}
 use Rattle.model.specs.Expand.{highest}
-use Rattle.build.proofs.MemberLaws.{has-insert}
+use Rattle.atoms.proofs.MemberLaws.{has-insert}
 
 pub cond-true : {A : Type 0} (b : Bool) (x y : A) → b ≡ true → cond b x y ≡ x
 cond-true true x y h = refl

@@ -10,12 +10,12 @@ use Rattle.deck.specs.Sound.{Sound}
 use Rattle.eval.specs.Lists.{range}
 use Rattle.eval.proofs.ListLaws.{position}
 use Rattle.build.specs.declared.bounds.Bounds.{Bounds}
-use Rattle.build.specs.declared.target_label.Target.{Target}
-use Rattle.build.specs.declared.target_label.Target.the-variants.{Row, Delta, NotClosed}
-use Rattle.build.specs.Label.{labelHas, insertBit}
+use Rattle.atoms.specs.declared.target_label.Target.{Target}
+use Rattle.atoms.specs.declared.target_label.Target.the-variants.{Row, Delta, NotClosed}
+use Rattle.atoms.specs.Label.{labelHas, insertBit}
 use Rattle.build.specs.Seed.{rowLabel}
-use Rattle.build.specs.Reasons.{runDelta, labelNotClosed}
-use Rattle.build.specs.Target.{targetOf}
+use Rattle.atoms.specs.Reasons.{runDelta, labelNotClosed}
+use Rattle.atoms.specs.Target.{targetOf}
 use Rattle.build.specs.Model.{Model, noteIn}
 use Rattle.model.specs.Expand.{highest, linkTarget, workFact, factStep, workFacts, classStep, workClasses, nextTurn, turns, expand}
 use Rattle.build.proofs.InternLaws.{by-cond, by-case}

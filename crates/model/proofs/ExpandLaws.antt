@@ -18,17 +18,17 @@ use Rattle.eval.specs.Lent.{labelWidth}
 use Rattle.build.specs.declared.bounds.Bounds.{Bounds}
 use Rattle.build.specs.declared.tally.Tally.{Tally}
 use Rattle.build.specs.declared.tally.Step.{Step}
-use Rattle.build.specs.declared.target_label.Target.{Target}
-use Rattle.build.specs.Label.{labelHas, insertBit}
+use Rattle.atoms.specs.declared.target_label.Target.{Target}
+use Rattle.atoms.specs.Label.{labelHas, insertBit}
 use Rattle.build.specs.Push.{quiet}
-use Rattle.build.specs.Target.{targetOf}
+use Rattle.atoms.specs.Target.{targetOf}
 use Rattle.build.specs.Model.{Model, Buffers, begun, Built, Prepared}
 use Rattle.model.specs.Expand.{linkTarget, workFact, factStep, workFacts, classStep, workClasses, highest, nextTurn, turns, expandIn}
-use Rattle.build.proofs.MemberLaws.{has-insert, none-has}
-use Rattle.build.proofs.RowLaws.{length-rows}
-use Rattle.build.specs.Walk.{walk}
+use Rattle.atoms.proofs.MemberLaws.{has-insert, none-has}
+use Rattle.atoms.proofs.RowLaws.{length-rows}
+use Rattle.atoms.specs.Walk.{walk}
 use Rattle.build.proofs.SeedLaws.{noFact}
-use Rattle.build.proofs.WalkLaws.{walk-fixed, walk-placed}
+use Rattle.atoms.proofs.WalkLaws.{walk-fixed, walk-placed}
 use Rattle.build.proofs.BuildLaws.{built-is, built-same, built-trans, built-start, built-quiet, built-tripped}
 
 cond-true : {A : Type 0} (b : Bool) (x y : A) → b ≡ true → cond b x y ≡ x

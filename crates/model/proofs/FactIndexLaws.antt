@@ -21,17 +21,17 @@ use Rattle.eval.specs.Lists.{range}
 use Rattle.eval.proofs.Clash.{clash}
 use Rattle.eval.proofs.Walks.{list-step, range-end}
 use Rattle.build.specs.declared.bounds.Bounds.{Bounds}
-use Rattle.build.specs.Walk.{walk}
-use Rattle.build.specs.Label.{labelHas, insertBit}
+use Rattle.atoms.specs.Walk.{walk}
+use Rattle.atoms.specs.Label.{labelHas, insertBit}
 use Rattle.build.specs.declared.tally.Tally.{Tally}
 use Rattle.build.specs.Model.{Model, Buffers, begun}
 use Rattle.model.specs.Expand.{factStep, workFacts, classStep, workClasses, highest, nextTurn, turns}
 use Rattle.model.specs.FactIndex.{nextFact, Indexed, Marked}
 use Rattle.build.proofs.SeedLaws.{noFact}
-use Rattle.build.proofs.WalkLaws.{walk-fixed, walk-step, walk-end}
+use Rattle.atoms.proofs.WalkLaws.{walk-fixed, walk-step, walk-end}
 use Rattle.model.proofs.SkipLaws.{range-skip}
 use Rattle.build.proofs.BuildLaws.{OnModel}
-use Rattle.build.proofs.MemberLaws.{by-cases, has-insert, none-has}
+use Rattle.atoms.proofs.MemberLaws.{by-cases, has-insert, none-has}
 use Rattle.model.proofs.ExpandLaws.{fact-other, class-yes, class-no}
 
 -- ---- the next fact of a class

@@ -13,9 +13,9 @@ use Rattle.build.specs.declared.tally.Tally.{Tally}
 use Rattle.build.specs.declared.tally.Step.{Step}
 use Rattle.model.specs.Pairs.{linkKey, first}
 use Rattle.build.specs.Push.{State, quiet, start, Left, Room}
-use Rattle.build.specs.Walk.{walk}
+use Rattle.atoms.specs.Walk.{walk}
 use Rattle.model.proofs.NextLaws.{next-none, next-from, next-hit, next-below, next-some}
-use Rattle.build.proofs.WalkLaws.{OnEdges, on-start, on-done, on-stop, on-next}
+use Rattle.build.proofs.OnLaws.{OnEdges, on-start, on-done, on-stop, on-next}
 
 -- the numbers of the pairs of r among the edges of before, from a on and below `end`
 abbrev pub keys : Deck → ℕ → List (List ℕ) → Tally → ℕ → ℕ → List ℕ

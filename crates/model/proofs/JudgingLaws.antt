@@ -18,10 +18,10 @@ use Rattle.eval.specs.Structure.{Structure}
 use Rattle.eval.specs.Verdict.{wordsOf, verdict}
 use Rattle.eval.proofs.Walks.{list-step}
 use Rattle.model.specs.declared.judging.Judged.{Judged}
-use Rattle.build.specs.Rows.{put}
+use Rattle.atoms.specs.Rows.{put}
 use Rattle.model.specs.Outcome.{isFails, isUnresolved}
 use Rattle.model.specs.Run.{verdictsIn, wordsIn}
-use Rattle.build.proofs.MemberLaws.{or-assoc}
+use Rattle.atoms.proofs.MemberLaws.{or-assoc}
 use Rattle.build.proofs.PushLaws.{sets-append}
 
 -- what is put at the start is stored from the start on

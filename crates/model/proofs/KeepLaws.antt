@@ -19,19 +19,20 @@ use Rattle.eval.specs.Edges.{edgeIn}
 use Rattle.eval.specs.Lent.{EdgeFits}
 use Rattle.eval.proofs.Clash.{clash}
 use Rattle.build.specs.declared.bounds.Bounds.{Bounds}
-use Rattle.build.specs.declared.reasons.Reason.{Reason}
-use Rattle.build.specs.Walk.{walk}
+use Rattle.atoms.specs.declared.reasons.Reason.{Reason}
+use Rattle.atoms.specs.Walk.{walk}
 use Rattle.build.specs.Intern.{indexOf, interned}
-use Rattle.build.specs.Reasons.{boundTripped}
+use Rattle.atoms.specs.Reasons.{boundTripped}
 use Rattle.build.specs.Push.{State, edge, added, pushEdge}
 use Rattle.model.specs.Closing.{EdgesFit}
 use Rattle.build.specs.Model.{Model, noteState, tripState, noteIn, tripIn, withState, reach, top}
-use Rattle.build.specs.Exists.{Body, withReasons}
+use Rattle.build.specs.Exists.{withReasons}
+use Rattle.atoms.specs.Body.{Body}
 use Rattle.build.proofs.InternLaws.{Extends, extends-same, extends-trans, extends-interned, extends-length, interned-known, interned-new, interned-grows, by-cond, by-case, index-le}
 use Rattle.model.proofs.TidyLaws.{Tidy, Labels, labels-interned}
 use Rattle.model.proofs.CloseLaws.{fits-snoc, Bound, bound-added}
 use Rattle.build.proofs.BuildLaws.{top-bound}
-use Rattle.build.proofs.WalkLaws.{walk-keeps}
+use Rattle.atoms.proofs.WalkLaws.{walk-keeps}
 
 -- past a bound there is only the element or edge that tripped it
 pub record Within (D : Deck) (B : Bounds) (m : Model) : Type 0 where

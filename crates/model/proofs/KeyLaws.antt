@@ -11,10 +11,10 @@ use Rattle.eval.specs.Lists.{keep, range}
 use Rattle.eval.specs.Structure.{pair, hasEdge, successors, pairs}
 use Rattle.build.specs.Push.{State}
 use Rattle.model.specs.Pairs.{pairOf, linkKey, EndsFit}
-use Rattle.build.specs.Walk.{walk}
+use Rattle.atoms.specs.Walk.{walk}
 use Rattle.model.specs.Closing.{graph, closeFrom, closeRule, EdgesFit}
 use Rattle.model.proofs.NextLaws.{keep-none}
-use Rattle.build.proofs.WalkLaws.{walk-map}
+use Rattle.atoms.proofs.WalkLaws.{walk-map}
 use Rattle.model.proofs.CloseLaws.{linked-is, linked-fits}
 
 -- ---- kept parts of a range

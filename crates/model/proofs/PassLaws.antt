@@ -14,13 +14,13 @@ use Rattle.eval.specs.Lists.{range}
 use Rattle.eval.specs.Lent.{bit, labelWidth, memberIn}
 use Rattle.build.specs.declared.bounds.Bounds.{Bounds}
 use Rattle.build.specs.declared.tally.Tally.{Tally}
-use Rattle.build.specs.Label.{labelHas}
+use Rattle.atoms.specs.Label.{labelHas}
 use Rattle.build.specs.Model.{Buffers, begun}
 use Rattle.model.specs.Expand.{classStep}
 use Rattle.model.specs.FactIndex.{Marked, Passed}
 use Rattle.model.proofs.SkipLaws.{range-skip}
 use Rattle.model.proofs.WordLaws.{bit-and, word-step}
-use Rattle.build.proofs.InternLaws.{label-member}
+use Rattle.atoms.proofs.MemberLaws.{label-member}
 use Rattle.build.proofs.BuildLaws.{OnModel}
 use Rattle.model.proofs.FactIndexLaws.{class-passed}
 

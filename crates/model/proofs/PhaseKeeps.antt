@@ -9,9 +9,9 @@ use lib.Dec.{leb, ltb}
 use Rattle.deck.specs.Deck.{Deck, classAt, classCount}
 use Rattle.deck.specs.Sound.{Sound}
 use Rattle.build.specs.declared.bounds.Bounds.{Bounds}
-use Rattle.build.specs.Floor.{floorLabel}
+use Rattle.atoms.specs.Floor.{floorLabel}
 use Rattle.build.specs.Seed.{seeds, HasRow}
-use Rattle.build.specs.Reasons.{axiomsDropped}
+use Rattle.atoms.specs.Reasons.{axiomsDropped}
 use Rattle.model.specs.Closing.{EdgesFit}
 use Rattle.build.specs.Model.{Model, noteIn, top}
 use Rattle.model.specs.Expand.{expand}

@@ -16,18 +16,18 @@ use Rattle.eval.specs.Lent.{labelWidth}
 use Rattle.build.specs.declared.bounds.Bounds.{Bounds}
 use Rattle.build.specs.declared.tally.Tally.{Tally}
 use Rattle.build.specs.declared.tally.Step.{Step}
-use Rattle.build.specs.Rows.{put, flat}
+use Rattle.atoms.specs.Rows.{put, flat}
 use Rattle.build.specs.Intern.{Held}
-use Rattle.build.specs.Floor.{floorLabel}
+use Rattle.atoms.specs.Floor.{floorLabel}
 use Rattle.build.specs.Seed.{seeds, Seeded}
-use Rattle.build.specs.Reasons.{noted, counted, axiomsDropped}
+use Rattle.atoms.specs.Reasons.{noted, counted, axiomsDropped}
 use Rattle.build.specs.Push.{State, start, stored, Left, Room}
 use Rattle.model.specs.Closing.{close, EdgesFit, Ready}
 use Rattle.build.specs.Model.{Model, withState, noteIn, Buffers, lent, begun, among, top, Prepared, Built}
 use Rattle.model.specs.Expand.{expand, expandIn}
 use Rattle.model.specs.Rounds.{expandFromAxioms}
 use Rattle.model.specs.Phases.{phase, seeded, closeIn, laterPhases, phases, withDropped, construct, Dropped, Constructed}
-use Rattle.build.proofs.RowLaws.{length-rows, rows-put, room-below}
+use Rattle.atoms.proofs.RowLaws.{length-rows, rows-put, room-below}
 use Rattle.build.proofs.InternLaws.{held-start, held-on}
 use Rattle.build.proofs.SeedLaws.{seeds-wide, seeds-few}
 use Rattle.build.proofs.PushLaws.{left-words, left-edges, left-log, left-count}

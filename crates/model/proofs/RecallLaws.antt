@@ -17,17 +17,17 @@ use Rattle.eval.specs.Lent.{labelWidth}
 use Rattle.build.specs.declared.bounds.Bounds.{Bounds}
 use Rattle.build.specs.declared.tally.Tally.{Tally}
 use Rattle.build.specs.declared.tally.Step.{Step}
-use Rattle.build.specs.Label.{sameLabel, labelOf}
-use Rattle.build.specs.Rows.{rowsOf}
+use Rattle.atoms.specs.Label.{sameLabel, labelOf}
+use Rattle.atoms.specs.Rows.{rowsOf}
 use Rattle.build.specs.Intern.{indexOf, interned}
-use Rattle.build.specs.Floor.{floored}
+use Rattle.atoms.specs.Floor.{floored}
 use Rattle.build.specs.Seed.{rowLabel}
 use Rattle.build.specs.Push.{edge, pushEdge, start, Left}
 use Rattle.build.specs.Model.{Model, Buffers, lent, begun, Prepared, Built, reach}
 use Rattle.model.specs.FactIndex.{Recalled}
-use Rattle.build.proofs.LabelLaws.{same-refl}
-use Rattle.build.proofs.MemberLaws.{by-cases, zero-word}
-use Rattle.build.proofs.RowLaws.{length-rows}
+use Rattle.atoms.proofs.LabelLaws.{same-refl}
+use Rattle.atoms.proofs.MemberLaws.{by-cases, zero-word}
+use Rattle.atoms.proofs.RowLaws.{length-rows}
 use Rattle.build.proofs.InternLaws.{interned-known, interned-new, index-le, placed-known, held-rows}
 use Rattle.build.proofs.SeedLaws.{length-row-label}
 use Rattle.build.proofs.BuildLaws.{all-fit, reach-link}

@@ -15,14 +15,14 @@ use Rattle.eval.proofs.ListLaws.{in-range}
 use Rattle.eval.proofs.Steps.{fits, each-below}
 use Rattle.build.specs.declared.bounds.Bounds.{Bounds}
 use Rattle.build.specs.Intern.{indexOf}
-use Rattle.build.specs.Reasons.{boundTripped}
+use Rattle.atoms.specs.Reasons.{boundTripped}
 use Rattle.build.specs.Model.{Model, tripIn, reach}
 use Rattle.build.specs.Exists.{bodyIn, bodyLabel, withReasons, reachBody, workOf, workStep, idle, work}
 use Rattle.model.specs.Rounds.{fire, firePair, fireFrom, fireAxiom, visit, round, rounds, expandFromAxioms}
-use Rattle.build.specs.Antecedent.{isRule, holdsAtoms}
+use Rattle.atoms.specs.Antecedent.{isRule, holdsAtoms}
 use Rattle.build.proofs.InternLaws.{by-cond, by-case}
 use Rattle.model.proofs.TidyLaws.{Tidy, tidy-zeros, tidy-floored, takes-row}
-use Rattle.build.proofs.BodyLaws.{body-keeps}
+use Rattle.atoms.proofs.BodyLaws.{body-keeps}
 use Rattle.build.proofs.ExistsLaws.{below-work}
 use Rattle.model.proofs.RoundLaws.{axiom-case, visit-in-order}
 use Rattle.model.proofs.KeepLaws.{Kept, kept-same, kept-trans, trip-kept, reasons-kept, walk-kept, index-below, reach-kept}

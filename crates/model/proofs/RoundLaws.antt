@@ -24,18 +24,18 @@ use Rattle.eval.specs.Lists.{range}
 use Rattle.build.specs.declared.bounds.Bounds.{Bounds}
 use Rattle.build.specs.declared.tally.Tally.{Tally}
 use Rattle.build.specs.declared.tally.Step.{Step}
-use Rattle.build.specs.Walk.{walk}
-use Rattle.build.specs.Reasons.{boundTripped}
+use Rattle.atoms.specs.Walk.{walk}
+use Rattle.atoms.specs.Reasons.{boundTripped}
 use Rattle.build.specs.Push.{quiet}
 use Rattle.build.specs.Model.{Model, tripIn, Buffers, begun, Prepared, Built}
 use Rattle.build.specs.Exists.{work}
 use Rattle.model.specs.Rounds.{fire, firePair, fireFrom, fireAxiom, visit, round, rounds}
-use Rattle.build.specs.Antecedent.{isRule, holdsAtoms}
+use Rattle.atoms.specs.Antecedent.{isRule, holdsAtoms}
 use Rattle.build.proofs.ExistsLaws.{work-stuck}
-use Rattle.build.proofs.RowLaws.{length-rows}
+use Rattle.atoms.proofs.RowLaws.{length-rows}
 use Rattle.build.proofs.InternLaws.{held-length}
-use Rattle.build.proofs.FloorLaws.{axiom-sub-class, axiom-equivalent}
-use Rattle.build.proofs.WalkLaws.{walk-fixed, walk-placed}
+use Rattle.atoms.proofs.FloorLaws.{axiom-sub-class, axiom-equivalent}
+use Rattle.atoms.proofs.WalkLaws.{walk-fixed, walk-placed}
 use Rattle.build.proofs.BuildLaws.{fits-in, built-same, built-is, built-start, built-tripped, built-count, built-quiet, built-trans}
 
 pub either : {A : Type 0} (b : Bool) {x y z : A} → x ≡ z → y ≡ z → cond b x y ≡ z

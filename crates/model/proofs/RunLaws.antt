@@ -36,8 +36,8 @@ use Rattle.build.specs.declared.tally.Tally.{Tally}
 use Rattle.model.specs.declared.outcome.Outcome.{Outcome}
 use Rattle.model.specs.declared.outcome.Outcome.the-variants.{Confirmed, Open}
 use Rattle.model.specs.declared.run.RunAnswer.{RunAnswer}
-use Rattle.build.specs.Label.{labelHas}
-use Rattle.build.specs.Rows.{put, flat, rowAt, Wide, none, more}
+use Rattle.atoms.specs.Label.{labelHas}
+use Rattle.atoms.specs.Rows.{put, flat, rowAt, Wide, none, more}
 use Rattle.build.specs.Push.{edge}
 use Rattle.model.specs.Closing.{EdgesFit}
 use Rattle.build.specs.Model.{Model, lent, top}
@@ -45,7 +45,7 @@ use Rattle.model.specs.Phases.{construct, tallyOf, Constructed}
 use Rattle.model.specs.Outcome.{isFails, isUnresolved, outcomeBy, outcomeOf}
 use Rattle.model.specs.Run.{runRefusal, boundsFit, roomFits, Ran, ran, shapeIn, verdictsIn, wordsIn, judged, accepted, unlessRefused, run}
 use Rattle.model.specs.Trust.{Stands, Trusted, Lendable}
-use Rattle.build.proofs.RowLaws.{rows-put, rows-at, length-put, length-flat}
+use Rattle.atoms.proofs.RowLaws.{rows-put, rows-at, length-put, length-flat}
 use Rattle.build.proofs.SeedLaws.{row-member}
 use Rattle.model.proofs.JudgingLaws.{length-words}
 use Rattle.model.proofs.NeedLaws.{BoundsIn, bounds-in, RoomIn, room-in}

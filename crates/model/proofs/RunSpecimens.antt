@@ -19,26 +19,27 @@ use Rattle.eval.proofs.Specimens.{W, E}
 use Rattle.build.specs.declared.bounds.Bounds.{Bounds}
 use Rattle.model.specs.declared.outcome.Outcome.the-variants.{Confirmed}
 use Rattle.model.specs.declared.run.RunAnswer.{RunAnswer}
-use Rattle.build.specs.Rows.{put, flat}
+use Rattle.atoms.specs.Rows.{put, flat}
 use Rattle.model.specs.Outcome.{outcomeOf}
 use Rattle.model.specs.Run.{ran, judged, accepted}
-use Rattle.build.specs.Walk.{walk}
-use Rattle.build.specs.Label.{labelHas, insertBit, insertAll, labelOf, joinTo, joined, sameLabel}
+use Rattle.atoms.specs.Walk.{walk}
+use Rattle.atoms.specs.Label.{labelHas, insertBit, insertAll, labelOf, joinTo, joined, sameLabel}
 use Rattle.build.specs.Intern.{indexOf, interned}
-use Rattle.build.specs.Floor.{universalOf, universal, atomsOf, requiredAtoms, satisfiableRow, atomRows, memberRows, floorOf, floorLabel, hasReal, floored}
+use Rattle.atoms.specs.Floor.{universalOf, universal, atomsOf, requiredAtoms, satisfiableRow, atomRows, memberRows, floorOf, floorLabel, hasReal, floored}
 use Rattle.build.specs.Seed.{names, isSeeded, rowLabel, seeds}
-use Rattle.build.specs.Reasons.{noted, counted}
+use Rattle.atoms.specs.Reasons.{noted, counted}
 use Rattle.build.specs.Push.{edge, pushEdge}
-use Rattle.build.specs.Target.{holdsRange, targetOf}
+use Rattle.atoms.specs.Target.{holdsRange, targetOf}
 use Rattle.model.specs.Rules.{ruleOf}
 use Rattle.build.specs.Model.{Model, reach}
 use Rattle.model.specs.Expand.{highest, workFact, factStep, workFacts, classStep, workClasses, nextTurn, turns, expand}
-use Rattle.build.specs.Exists.{joinAtom, joinAtoms, bodyOf, reachBody, workOf, workStep, work}
+use Rattle.build.specs.Exists.{reachBody, workOf, workStep, work}
+use Rattle.atoms.specs.Body.{joinAtom, joinAtoms, bodyOf}
 use Rattle.model.specs.Rounds.{fire, fireAxiom, visit, round, rounds, expandFromAxioms}
-use Rattle.build.specs.Antecedent.{hasAtom, isRule, holdsAtoms}
+use Rattle.atoms.specs.Antecedent.{hasAtom, isRule, holdsAtoms}
 use Rattle.model.specs.Closing.{closeAxiom, closePass, closing, close}
 use Rattle.model.specs.Phases.{phase, seeded, closeIn, laterPhases, phases, withDropped, construct}
-use Rattle.build.proofs.MemberLaws.{by-cases}
+use Rattle.atoms.proofs.MemberLaws.{by-cases}
 
 -- "with bounds 255, 1,000, 100"
 abbrev pub bounds : Bounds

@@ -7,7 +7,7 @@ use native.Mathlib.Omega.{arith}
 use lib.ListN.{length, getD, drop}
 use Rattle.eval.specs.Lists.{range}
 use Rattle.eval.proofs.Walks.{list-step, range-step}
-use Rattle.build.specs.Walk.{walk}
+use Rattle.atoms.specs.Walk.{walk}
 
 -- places of a list
 module _ {A S : Type 0} (d : A) (f : A → S → S) (l : List A) (s : S) where

@@ -23,9 +23,9 @@ use Rattle.build.specs.Model.{Model, Buffers, begun, Prepared, Built}
 use Rattle.build.specs.Exists.{work}
 use Rattle.build.specs.Quiet.{unchanged, modelSize, LiveModel}
 use Rattle.model.specs.Rounds.{fire, firePair, fireFrom}
-use Rattle.build.specs.Antecedent.{isRule, holdsAtoms}
+use Rattle.atoms.specs.Antecedent.{isRule, holdsAtoms}
 use Rattle.model.specs.Still.{idles, Stands, passes, joined, after}
-use Rattle.build.proofs.WalkLaws.{walk-keeps}
+use Rattle.atoms.proofs.WalkLaws.{walk-keeps}
 use Rattle.build.proofs.BuildLaws.{built-start}
 use Rattle.model.proofs.RoundLaws.{either}
 use Rattle.model.proofs.StillLaws.{from-grows, others-still}

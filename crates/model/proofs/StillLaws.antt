@@ -10,7 +10,7 @@ use Rattle.build.specs.declared.bounds.Bounds.{Bounds}
 use Rattle.build.specs.Model.{Model}
 use Rattle.build.specs.Exists.{work}
 use Rattle.model.specs.Rounds.{fire, firePair, fireFrom}
-use Rattle.build.specs.Antecedent.{isRule, holdsAtoms}
+use Rattle.atoms.specs.Antecedent.{isRule, holdsAtoms}
 use Rattle.build.proofs.InternLaws.{by-cond}
 use Rattle.model.proofs.RoundLaws.{pair-differs}
 use Rattle.build.specs.Quiet.{modelSize, LiveModel}

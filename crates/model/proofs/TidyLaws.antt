@@ -19,16 +19,16 @@ use Rattle.deck.proofs.CaseLaws.{lt-or-le}
 use Rattle.eval.specs.Lent.{labelWidth}
 use Rattle.eval.specs.Lists.{any}
 use Rattle.eval.proofs.Clash.{clash}
-use Rattle.build.specs.Label.{labelHas, insertBit, insertAll, labelOf, joined, sameLabel}
-use Rattle.build.specs.Rows.{Wide, none}
+use Rattle.atoms.specs.Label.{labelHas, insertBit, insertAll, labelOf, joined, sameLabel}
+use Rattle.atoms.specs.Rows.{Wide, none}
 use Rattle.build.specs.Intern.{indexOf, interned}
-use Rattle.build.specs.Floor.{universal, requiredAtoms, satisfiableRow, atomRows, memberRows, floorOf, floorLabel, hasReal, floored}
+use Rattle.atoms.specs.Floor.{universal, requiredAtoms, satisfiableRow, atomRows, memberRows, floorOf, floorLabel, hasReal, floored}
 use Rattle.build.specs.Seed.{isSeeded, rowLabel, seeds}
-use Rattle.build.proofs.BitLaws.{pow-below, same-low}
-use Rattle.build.proofs.LabelLaws.{length-insert, length-joined, insert-all-append, same-refl}
-use Rattle.build.proofs.MemberLaws.{by-cases, has-insert, none-has, zero-word, join-word, has-joined}
+use Rattle.atoms.proofs.BitLaws.{pow-below, same-low}
+use Rattle.atoms.proofs.LabelLaws.{length-insert, length-joined, insert-all-append, same-refl}
+use Rattle.atoms.proofs.MemberLaws.{by-cases, has-insert, none-has, zero-word, join-word, has-joined}
 use Rattle.build.proofs.InternLaws.{by-cond, interned-known, interned-new, interned-wide}
-use Rattle.build.proofs.FloorLaws.{no-class, at-word}
+use Rattle.atoms.proofs.FloorLaws.{no-class, at-word}
 
 -- a label's width, words of 64 bits, no class at or past N
 pub record Tidy (D : Deck) (l : List ℕ) : Type 0 where

@@ -36,19 +36,19 @@ use Rattle.eval.specs.Numbered.{numbered}
 use Rattle.eval.proofs.Clash.{clash}
 use Rattle.eval.proofs.ListLaws.{every-at, none-at, member-at}
 use Rattle.build.specs.declared.bounds.Bounds.{Bounds}
-use Rattle.build.specs.Label.{labelHas}
-use Rattle.build.specs.Walk.{walk}
+use Rattle.atoms.specs.Label.{labelHas}
+use Rattle.atoms.specs.Walk.{walk}
 use Rattle.build.specs.declared.tally.Tally.{Tally}
-use Rattle.build.specs.Rows.{rowsOf}
+use Rattle.atoms.specs.Rows.{rowsOf}
 use Rattle.build.specs.Model.{Model, Buffers, Prepared}
 use Rattle.build.specs.Exists.{workOf, workStep, work}
 use Rattle.model.specs.Rounds.{fire, firePair, fireFrom, fireAxiom}
-use Rattle.build.specs.Antecedent.{isRule, holdsAtoms}
+use Rattle.atoms.specs.Antecedent.{isRule, holdsAtoms}
 use Rattle.model.specs.Triggers.{builds, mayAdd, Needs, Idle, Trigger, Entry, Triggers, runAt, stepOf, stepIn, Chain, Steps}
-use Rattle.build.proofs.FloorLaws.{read-is}
-use Rattle.build.proofs.InternLaws.{label-member}
-use Rattle.build.proofs.WalkLaws.{walk-keeps, walk-fixed}
-use Rattle.build.proofs.AntecedentLaws.{holds-and, holds-atomic}
+use Rattle.atoms.proofs.FloorLaws.{read-is}
+use Rattle.atoms.proofs.MemberLaws.{label-member}
+use Rattle.atoms.proofs.WalkLaws.{walk-keeps, walk-fixed}
+use Rattle.atoms.proofs.AntecedentLaws.{holds-and, holds-atomic}
 use Rattle.build.proofs.BuildLaws.{OnModel, built-same}
 use Rattle.model.proofs.SkipLaws.{walk-skip}
 use Rattle.model.proofs.RoundLaws.{either, pair-same, other-fires}

@@ -8,10 +8,10 @@ use lib.ListN.{length, replicate, length-replicate}
 use Rattle.deck.specs.Deck.{Deck}
 use Rattle.deck.specs.Sound.{Sound}
 use Rattle.build.specs.declared.bounds.Bounds.{Bounds}
-use Rattle.build.specs.Label.{insertBit}
+use Rattle.atoms.specs.Label.{insertBit}
 use Rattle.build.specs.Model.{Model, top}
 use Rattle.model.specs.Expand.{highest, workClasses, turns, expandIn, expand}
-use Rattle.build.proofs.LabelLaws.{length-insert}
+use Rattle.atoms.proofs.LabelLaws.{length-insert}
 use Rattle.model.proofs.TidyLaws.{Tidy}
 use Rattle.model.proofs.ExpandLaws.{untaken, untaken-take, untaken-none, highest-is, turns-tripped, turns-none, turns-next}
 use Rattle.model.proofs.KeepLaws.{Within}

@@ -16,7 +16,7 @@ use Rattle.model.specs.declared.rules.Rule.the-variants.{Compose, NoRule
 use Rattle.build.specs.declared.tally.Tally.{Tally}
 use Rattle.build.specs.Push.{State, edge, pushEdge, Room}
 use Rattle.model.specs.Rules.{ruleOf}
-use Rattle.build.specs.Walk.{walk}
+use Rattle.atoms.specs.Walk.{walk}
 
 -- "edges(a)", "edges(b)" and "the test for an edge" are those of section 4, over n elements with these edges; labels do not count
 abbrev pub graph : ℕ → List Edge → Structure

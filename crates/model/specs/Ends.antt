@@ -7,9 +7,9 @@ use Rattle.deck.specs.Deck.{Deck}
 use Rattle.eval.specs.declared.edges.Edge.{Edge}
 use Rattle.eval.specs.Edges.{linked}
 use Rattle.eval.specs.Lists.{keep, range}
-use Rattle.build.specs.Label.{labelHas}
+use Rattle.atoms.specs.Label.{labelHas}
 use Rattle.build.specs.Push.{State, edge, added}
-use Rattle.build.specs.Walk.{walk}
+use Rattle.atoms.specs.Walk.{walk}
 
 -- of n elements z has its bit where an edge of r goes from x to z
 pub record Ends (D : Deck) (n : ℕ) (es : List Edge) (r x : ℕ) (bits : List ℕ) : Type 0 where

@@ -7,13 +7,13 @@ use lib.Dec.{eqb}
 use Rattle.deck.specs.Deck.{Deck, Fact, classCount, factCount, factAt}
 use Rattle.eval.specs.Lists.{range}
 use Rattle.build.specs.declared.bounds.Bounds.{Bounds}
-use Rattle.build.specs.declared.target_label.Target.{Target}
-use Rattle.build.specs.declared.target_label.Target.the-variants.{Row, Delta, NotClosed}
-use Rattle.build.specs.Walk.{walk}
-use Rattle.build.specs.Label.{labelHas, insertBit}
+use Rattle.atoms.specs.declared.target_label.Target.{Target}
+use Rattle.atoms.specs.declared.target_label.Target.the-variants.{Row, Delta, NotClosed}
+use Rattle.atoms.specs.Walk.{walk}
+use Rattle.atoms.specs.Label.{labelHas, insertBit}
 use Rattle.build.specs.Seed.{rowLabel}
-use Rattle.build.specs.Reasons.{runDelta, labelNotClosed}
-use Rattle.build.specs.Target.{targetOf}
+use Rattle.atoms.specs.Reasons.{runDelta, labelNotClosed}
+use Rattle.atoms.specs.Target.{targetOf}
 use Rattle.build.specs.Model.{Model, noteIn, reach}
 
 -- one more than the highest element below n that is not taken, or 0; who is taken is kept as the bits of a label

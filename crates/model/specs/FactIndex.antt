@@ -6,7 +6,7 @@ use mathlib.Core.List.{List, [], _∷_}
 use lib.ListN.{length, getD, drop}
 use lib.Dec.{eqb}
 use Rattle.deck.specs.Deck.{Deck, Fact, classCount, factCount, factAt}
-use Rattle.build.specs.Label.{labelHas}
+use Rattle.atoms.specs.Label.{labelHas}
 use Rattle.build.specs.Intern.{indexOf}
 use Rattle.build.specs.Seed.{rowLabel}
 

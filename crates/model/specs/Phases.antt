@@ -9,10 +9,10 @@ use Rattle.deck.specs.Deck.{Deck, classCount}
 use Rattle.eval.specs.Edges.{rowOf}
 use Rattle.build.specs.declared.bounds.Bounds.{Bounds}
 use Rattle.build.specs.declared.tally.Tally.{Tally}
-use Rattle.build.specs.Rows.{put, flat}
-use Rattle.build.specs.Floor.{floorLabel}
+use Rattle.atoms.specs.Rows.{put, flat}
+use Rattle.atoms.specs.Floor.{floorLabel}
 use Rattle.build.specs.Seed.{seeds}
-use Rattle.build.specs.Reasons.{axiomsDropped, noted, counted}
+use Rattle.atoms.specs.Reasons.{axiomsDropped, noted, counted}
 use Rattle.model.specs.Closing.{close}
 use Rattle.build.specs.Model.{Model, withState, noteIn, Buffers, top}
 use Rattle.model.specs.Expand.{expand}

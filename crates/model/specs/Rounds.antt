@@ -7,10 +7,10 @@ use lib.Dec.{eqb}
 use Rattle.deck.specs.Deck.{Deck, Axiom, axiomCount, axiomAt}
 use Rattle.eval.specs.Lists.{range}
 use Rattle.build.specs.declared.bounds.Bounds.{Bounds}
-use Rattle.build.specs.Walk.{walk}
-use Rattle.build.specs.Reasons.{boundTripped}
+use Rattle.atoms.specs.Walk.{walk}
+use Rattle.atoms.specs.Reasons.{boundTripped}
 use Rattle.build.specs.Model.{Model, tripIn}
-use Rattle.build.specs.Antecedent.{isRule, holdsAtoms}
+use Rattle.atoms.specs.Antecedent.{isRule, holdsAtoms}
 use Rattle.build.specs.Exists.{work}
 
 module _ (D : Deck) (floor : List ℕ) (B : Bounds) where

@@ -20,7 +20,7 @@ use Rattle.eval.specs.Verdict.{wordsOf, verdict}
 use Rattle.build.specs.declared.bounds.Bounds.{Bounds}
 use Rattle.build.specs.declared.tally.Tally.{Tally}
 use Rattle.model.specs.declared.run.RunAnswer.{RunAnswer}
-use Rattle.build.specs.Rows.{put, flat}
+use Rattle.atoms.specs.Rows.{put, flat}
 use Rattle.build.specs.Model.{Model, top}
 use Rattle.model.specs.Phases.{construct, tallyOf}
 use Rattle.model.specs.Outcome.{outcomeOf}

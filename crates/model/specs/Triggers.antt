@@ -8,7 +8,7 @@ use lib.Dec.{ltb}
 use Rattle.deck.specs.Deck.{Deck, Concept, Role, Axiom, classCount, conceptAt, axiomCount, axiomAt}
 use Rattle.eval.specs.Lent.{bit}
 use Rattle.build.specs.declared.bounds.Bounds.{Bounds}
-use Rattle.build.specs.Label.{labelHas}
+use Rattle.atoms.specs.Label.{labelHas}
 use Rattle.build.specs.Model.{Model}
 use Rattle.model.specs.Rounds.{fireAxiom}
 

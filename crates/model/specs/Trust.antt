@@ -14,7 +14,7 @@ use Rattle.eval.specs.Truth.{Choice, True}
 use Rattle.eval.specs.Justified.{Justified}
 use Rattle.model.specs.declared.outcome.Outcome.{Outcome}
 use Rattle.model.specs.declared.outcome.Outcome.the-variants.{Confirmed}
-use Rattle.build.specs.Rows.{rowAt}
+use Rattle.atoms.specs.Rows.{rowAt}
 
 -- Holds only for a true axiom, Fails only for one false at its witnesses, exact on the plain part: read off the four words of axiom i
 pub record Vouched (D : Deck) (S : Structure) (words : List ℕ) (i : ℕ) : Type 0 where

@@ -12,7 +12,7 @@ ghost use Rattle.eval.specs.Lists.{any};
 ghost use Rattle.eval.specs.Equipped.{Blank, Equipped};
 ghost use Rattle.eval.specs.Lent.{Fits, structureOf};
 ghost use Rattle.eval.specs.Verdict.{verdict};
-ghost use Rattle.build.specs.Rows.{put};
+ghost use Rattle.atoms.specs.Rows.{put};
 ghost use Rattle.model.specs.Outcome.{isFails, isUnresolved, outcomeBy};
 ghost use Rattle.model.specs.Run.{verdictsIn, wordsIn};
 use crate::outcome::Outcome;

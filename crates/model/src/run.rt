@@ -12,7 +12,7 @@ ghost use Rattle.build.specs.Model.{lent, top};
 ghost use Rattle.model.specs.Outcome.{outcomeOf};
 ghost use Rattle.model.specs.Phases.{Constructed};
 ghost use Rattle.build.specs.Push.{Room};
-ghost use Rattle.build.specs.Rows.{put};
+ghost use Rattle.atoms.specs.Rows.{put};
 ghost use Rattle.model.specs.Run as spec;
 ghost use Rattle.model.specs.Run.{ran, shapeIn, verdictsIn, wordsIn};
 ghost use Rattle.model.specs.Trust.{Trusted};

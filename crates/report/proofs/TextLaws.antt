@@ -19,11 +19,11 @@ use Rattle.model.specs.declared.outcome.Outcome.{Outcome}
 use Rattle.model.specs.declared.outcome.Outcome.the-variants.{Confirmed, Failed, Open}
 use Rattle.model.specs.declared.run.RunAnswer.{RunAnswer}
 use Rattle.build.specs.declared.tally.Tally.{Tally}
-use Rattle.build.specs.Rows.{put}
+use Rattle.atoms.specs.Rows.{put}
 use Rattle.eval.specs.Lent.{structureOf}
 use Rattle.model.specs.Run.{Ran, ran, run, shapeIn}
 use Rattle.model.specs.Trust.{Trusted}
-use Rattle.build.proofs.RowLaws.{put-take}
+use Rattle.atoms.proofs.RowLaws.{put-take}
 use Rattle.model.proofs.RunLaws.{trusted}
 use Rattle.report.specs.Lines.{outcomeWord, summaryLine, refusalLine, field}
 use Rattle.report.specs.Writes.{Wrote}

@@ -8,7 +8,7 @@ use Rattle.eval.proofs.DeckW.{deckW, is-W}
 use Rattle.eval.proofs.DeckW as read
 use Rattle.model.specs.declared.outcome.Outcome.the-variants.{Confirmed}
 use Rattle.model.specs.declared.run.RunAnswer.{RunAnswer}
-use Rattle.build.specs.Rows.{put}
+use Rattle.atoms.specs.Rows.{put}
 use Rattle.model.specs.Run.{boundsFit, roomFits, runRefusal, ran, run}
 use Rattle.model.proofs.RunSpecimens.{run-W}
 use Rattle.report.specs.Lines.{spelt, decimal, field, outcomeWord, summaryLine, witness, verdictText, verdictLine, refusalLine}

@@ -13,7 +13,7 @@ use Rattle.build.specs.declared.bounds.Bounds.{Bounds}
 use Rattle.model.specs.declared.outcome.Outcome.the-variants.{Confirmed}
 use Rattle.model.specs.declared.run.RunAnswer.{RunAnswer}
 use Rattle.build.specs.declared.tally.Tally.{Tally}
-use Rattle.build.specs.Rows.{put}
+use Rattle.atoms.specs.Rows.{put}
 use Rattle.model.specs.Run.{Ran, run, shapeIn}
 use Rattle.model.specs.Trust.{Trusted}
 use Rattle.report.specs.Lines.{summaryLine, verdictLine, refusalLine}

@@ -1,8 +1,8 @@
 use Rattle.build.proofs.QuietLaws.{known-idle, quiet-reached, quiet-kept}
 use Rattle.build.proofs.ExistsLaws.{work-stuck, and-leaves, inverse-leaves, some-stops, some-goes, other-leaves, Descending, descending-start, descending-next, descending-ends}
 use Rattle.build.proofs.BuildLaws.{OnModel, model-start, model-done, model-stop, model-next, prepared-after, built-is, built-same}
-use Rattle.build.proofs.FloorLaws.{fits-read}
-use Rattle.build.proofs.WalkLaws.{operand}
+use Rattle.atoms.proofs.FloorLaws.{fits-read}
+use Rattle.atoms.proofs.WalkLaws.{operand}
 use Rattle.build.specs.Quiet.{Quiet}
 use Rattle.build.specs.Exists.{work}
 use Rattle.build.specs.Model.{lent, begun}

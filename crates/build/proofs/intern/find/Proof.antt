@@ -6,8 +6,8 @@ use denote.Ref.{now}
 use mathlib.Core.Bool.{false}
 use borrow.Author.Count.{below-none, below-more}
 use lib.ListN.{length}
-use Rattle.build.specs.Label.{sameLabel}
-use Rattle.build.specs.Rows.{rowAt}
+use Rattle.atoms.specs.Label.{sameLabel}
+use Rattle.atoms.specs.Rows.{rowAt}
 use Rattle.build.proofs.InternLaws.{row-found, row-none}
 use Rattle.build.proofs.intern.find.Statement.{statement}
 use Rattle.build.proofs.intern.find.Tie as tie

@@ -2,7 +2,7 @@ use denote.Ref.{now}
 use mathlib.Core.Path.{sym, _∙_}
 use native.Mathlib.Omega.{arith}
 use lib.ListN.{length}
-use Rattle.build.proofs.LabelLaws.{same-differs, row-word}
+use Rattle.atoms.proofs.LabelLaws.{same-differs, row-word}
 use borrow.Author.Needs.{needs}
 use Rattle.build.proofs.intern.is_row.Statement.{statement}
 use Rattle.build.proofs.intern.is_row.Tie as tie

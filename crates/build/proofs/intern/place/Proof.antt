@@ -1,6 +1,6 @@
 use mathlib.Core.Path.{refl}
 use native.Mathlib.Omega.{arith}
-use Rattle.build.proofs.RowLaws.{room}
+use Rattle.atoms.proofs.RowLaws.{room}
 use Rattle.build.proofs.InternLaws.{placed-known, placed-new}
 use borrow.Author.Needs.{needs}
 use Rattle.build.proofs.intern.place.Statement.{statement}

@@ -5,8 +5,8 @@ use native.Mathlib.Omega.{arith}
 use borrow.Author.Needs.{needs}
 use borrow.Author.Count.{below-none, below-more}
 use lib.ListN.{length, getD}
-use Rattle.build.specs.Rows.{rowAt}
-use Rattle.build.proofs.LabelLaws.{same-refl, same-differs, row-word, row-is}
+use Rattle.atoms.specs.Rows.{rowAt}
+use Rattle.atoms.proofs.LabelLaws.{same-refl, same-differs, row-word, row-is}
 use Rattle.build.proofs.intern.same_label.Statement.{statement}
 use Rattle.build.proofs.intern.same_label.Tie as tie
 

@@ -1,7 +1,7 @@
 use borrow.Author.Needs.{needs}
 use Rattle.build.proofs.PrintLaws.{Sought, sought-start, sought-row, sought-fall, sought-here-row, sought-on-row, sought-done}
-use Rattle.build.proofs.RowLaws.{length-rows}
-use Rattle.build.specs.Rows.{rowsOf}
+use Rattle.atoms.proofs.RowLaws.{length-rows}
+use Rattle.atoms.specs.Rows.{rowsOf}
 use lib.ListN.{length}
 use native.Mathlib.Omega.{arith}
 use mathlib.Core.Logic.{⊎-elim}

@@ -1,6 +1,6 @@
 use Rattle.build.proofs.PrintLaws.{chained-known, chained-new}
 use Rattle.build.proofs.InternLaws.{placed-known, placed-new}
-use Rattle.build.proofs.RowLaws.{room}
+use Rattle.atoms.proofs.RowLaws.{room}
 use native.Mathlib.Omega.{arith}
 use mathlib.Core.Path.{refl}
 use borrow.Author.Needs.{needs}

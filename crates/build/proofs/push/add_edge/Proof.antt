@@ -6,7 +6,7 @@ use Rattle.build.proofs.push.add_edge.Tie as tie
 use Rattle.build.proofs.push.add_edge.Reads as reads
 use Rattle.build.proofs.push.add_edge.Lts as lts
 use Rattle.build.proofs.push.append.Reads as append-reads
-use Rattle.build.proofs.reasons.note.Reads as note-reads
+use Rattle.atoms.proofs.reasons.note.Reads as note-reads
 
 append-requires : tie.Need-append-requires
 append-requires c κs = search needs

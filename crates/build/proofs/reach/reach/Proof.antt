@@ -2,7 +2,7 @@ use native.Mathlib.Omega.{arith}
 use mathlib.Core.Path.{ap, _∙_}
 use Rattle.build.proofs.BuildLaws.{next-fits, reach-full, reach-link}
 use lib.ListN.{length}
-use Rattle.build.proofs.FloorLaws.{length-floored}
+use Rattle.atoms.proofs.FloorLaws.{length-floored}
 use borrow.Author.Needs.{needs}
 use Rattle.build.proofs.reach.reach.Statement.{statement}
 use Rattle.build.proofs.reach.reach.Tie as tie
@@ -10,7 +10,7 @@ use Rattle.build.proofs.reach.reach.Reads as reads
 use Rattle.build.proofs.reach.reach.Lts as lts
 use Rattle.build.proofs.intern.intern.Reads as intern-reads
 use Rattle.build.proofs.push.push_edge.Reads as push-edge-reads
-use Rattle.build.proofs.reasons.note.Reads as note-reads
+use Rattle.atoms.proofs.reasons.note.Reads as note-reads
 
 intern-requires : tie.Need-intern-requires
 intern-requires c κs = let P = c .before .before .before .before .before .before .before .pre .0 in (P .accepted, (P .floor-wide, (P .label-wide, (next-fits P, omega (arith, P .few, P .most)))))

@@ -1,6 +1,6 @@
 use Rattle.build.proofs.SeedLaws.{two-ends}
 use Rattle.build.specs.Seed.{endsOf}
-use Rattle.build.specs.Label.{insertAll}
+use Rattle.atoms.specs.Label.{insertAll}
 use Rattle.deck.proofs.SoundLaws.{limited}
 use Rattle.deck.specs.Reads.{factOf}
 use Rattle.deck.specs.Deck.{Fact}

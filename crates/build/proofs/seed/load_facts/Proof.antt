@@ -5,10 +5,10 @@ use denote.Ref.{now}
 use mathlib.Core.List.{flatMap}
 use lib.ListN.{length, drop}
 use Rattle.deck.specs.Content.{deckOf}
-use Rattle.build.specs.Label.{insertAll, labelOf}
+use Rattle.atoms.specs.Label.{insertAll, labelOf}
 use Rattle.build.specs.Seed.{endsOf}
 use Rattle.build.proofs.SeedLaws.{noFact}
-use Rattle.build.proofs.ListWalks.{taken-end, taken-step}
+use Rattle.atoms.proofs.ListWalks.{taken-end, taken-step}
 use borrow.Author.Needs.{needs}
 use Rattle.build.proofs.seed.load_facts.Statement.{statement}
 use Rattle.build.proofs.seed.load_facts.Tie as tie

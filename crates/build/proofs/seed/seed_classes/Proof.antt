@@ -6,7 +6,7 @@ use lib.ListN.{length}
 use Rattle.deck.specs.Content.{deckOf}
 use Rattle.eval.specs.Lent.{labelWidth}
 use Rattle.build.specs.Seed.{seeds, lastLabel}
-use Rattle.build.proofs.RowLaws.{room-below}
+use Rattle.atoms.proofs.RowLaws.{room-below}
 use Rattle.build.specs.Intern.{Held}
 use Rattle.build.specs.Prints.{Chained}
 use Rattle.build.proofs.SeedLaws.{seed-start, seed-more, seed-skip, held-few, last-none, last-take, last-skip, table-start, table-rows, table-more, table-skip}

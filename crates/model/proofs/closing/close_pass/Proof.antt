@@ -12,7 +12,7 @@ use Rattle.model.specs.Closing.{closeAxiom, closePass, Ready}
 use Rattle.build.proofs.PushLaws.{left-is}
 use Rattle.model.proofs.RuleLaws.{rule-fits-at}
 use Rattle.model.proofs.CloseLaws.{pass-in-order, axiom-stuck, axiom-same, axiom-fits, ready-next}
-use Rattle.build.proofs.WalkLaws.{OnEdges, on-start, on-done, on-stop, on-next}
+use Rattle.build.proofs.OnLaws.{OnEdges, on-start, on-done, on-stop, on-next}
 use Rattle.model.proofs.closing.close_pass.Statement.{statement}
 use Rattle.model.proofs.closing.close_pass.Tie as tie
 use Rattle.model.proofs.closing.close_pass.Reads as reads

@@ -3,7 +3,7 @@ use native.Mathlib.Omega.{arith}
 use mathlib.Core.Path.{sym, _∙_}
 use Rattle.build.proofs.BuildLaws.{built-is, built-same, all-fit}
 use Rattle.model.proofs.ExpandLaws.{class-yes, class-no}
-use Rattle.build.proofs.InternLaws.{label-member}
+use Rattle.atoms.proofs.MemberLaws.{label-member}
 use Rattle.model.proofs.expand.class_step.Statement.{statement}
 use Rattle.model.proofs.expand.class_step.Tie as tie
 use Rattle.model.proofs.expand.class_step.Reads as reads

@@ -2,7 +2,7 @@ use native.Mathlib.Omega.{arith}
 use Prim.Native.Nat.{ℕ}
 use mathlib.Core.Path.{sym, _∙_}
 use lib.ListN.{length-replicate}
-use Rattle.build.proofs.MemberLaws.{zero-word}
+use Rattle.atoms.proofs.MemberLaws.{zero-word}
 use Rattle.build.proofs.BuildLaws.{all-fit, prepared-with}
 use Rattle.model.proofs.RecallLaws.{recalled-start}
 use borrow.Author.Needs.{needs}

@@ -3,7 +3,7 @@ use native.Mathlib.Omega.{arith}
 use Prim.Native.Nat.{ℕ}
 use mathlib.Core.Path.{sym, _∙_}
 use lib.ListN.{length-replicate}
-use Rattle.build.proofs.MemberLaws.{zero-word}
+use Rattle.atoms.proofs.MemberLaws.{zero-word}
 use Rattle.model.proofs.RecallLaws.{recalled-start}
 use Rattle.model.proofs.expand.expand_small.Statement.{statement}
 use Rattle.model.proofs.expand.expand_small.Tie as tie

@@ -8,7 +8,7 @@ use Rattle.model.proofs.expand.highest_untaken.Statement.{statement}
 use Rattle.model.proofs.expand.highest_untaken.Tie as tie
 use Rattle.model.proofs.expand.highest_untaken.Reads as reads
 use Rattle.model.proofs.expand.highest_untaken.Lts as lts
-use Rattle.build.proofs.labels.has_bit.Reads as has-bit-reads
+use Rattle.atoms.proofs.labels.has_bit.Reads as has-bit-reads
 
 abbrev Inv-loop : tie.InvT-loop
 Inv-loop taken n i₀ i = (i ≤ n) × (highest taken i ≡ highest taken n)

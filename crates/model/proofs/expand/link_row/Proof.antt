@@ -6,9 +6,9 @@ use denote.Ref.{now}
 use lib.ListN.{length}
 use Rattle.deck.specs.Content.{deckOf}
 use Rattle.eval.specs.Lent.{labelWidth}
-use Rattle.build.specs.Rows.{rowsOf}
+use Rattle.atoms.specs.Rows.{rowsOf}
 use Rattle.build.specs.Seed.{rowLabel}
-use Rattle.build.proofs.LabelLaws.{length-label-of}
+use Rattle.atoms.proofs.LabelLaws.{length-label-of}
 use Rattle.build.proofs.BuildLaws.{prepared-with}
 use Rattle.model.proofs.RecallLaws.{recalled-same, recalled-reach, reach-rows, recall-link, place-small}
 use Rattle.model.proofs.expand.link_row.Statement.{statement}

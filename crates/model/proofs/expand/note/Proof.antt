@@ -4,7 +4,7 @@ use Rattle.model.proofs.expand.note.Statement.{statement}
 use Rattle.model.proofs.expand.note.Tie as tie
 use Rattle.model.proofs.expand.note.Reads as reads
 use Rattle.model.proofs.expand.note.Lts as lts
-use Rattle.build.proofs.reasons.note.Reads as note-reads
+use Rattle.atoms.proofs.reasons.note.Reads as note-reads
 
 note-requires : tie.Need-note-requires
 note-requires c κs = search needs

@@ -4,7 +4,7 @@ use Prim.Native.Nat.{_+_, _-_, _≤_}
 use mathlib.Core.Path.{_≡_, refl, sym, _∙_}
 use lib.ListN.{length}
 use Rattle.eval.specs.Lent.{labelWidth}
-use Rattle.build.specs.Rows.{rowsOf}
+use Rattle.atoms.specs.Rows.{rowsOf}
 use Rattle.model.specs.FactIndex.{Recalled}
 use denote.Ref.{now}
 use Rattle.deck.specs.Content.{deckOf}

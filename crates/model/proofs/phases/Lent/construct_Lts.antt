@@ -711,7 +711,7 @@ abbrev b1 : Body
 b1 = assign (place 12 []) (aggregate ((Syntax.copy (place 11 [])) ∷ (Syntax.copy (place 4 ((field 1) ∷ []))) ∷ []))
 
 abbrev b2 : Body
-b2 = call "build::floor::compute_top_floor" ((Syntax.copy (place 1 [])) ∷ (Syntax.copy (place 12 [])) ∷ []) (place 10 [])
+b2 = call "atoms::floor::compute_top_floor" ((Syntax.copy (place 1 [])) ∷ (Syntax.copy (place 12 [])) ∷ []) (place 10 [])
 
 abbrev b3 : Body
 b3 = call "model::phases::no_tally" [] (place 13 [])
@@ -1488,7 +1488,7 @@ module _ (claims· : Claims) where
   module _ (Pre· : (κs : Lfts 6) → Dens κs ps → Type 0) (Post· : (κs : Lfts 6) → (a : Dens κs ps) → Plain 6 ps r κs) where
     module _ (M : Type 1) where
       abbrev pub Closed : Type 2
-      Closed = (𝓤 : URA M) (H : Heap 𝓤) (A : Atoms 𝓤) (W : Given 𝓤 H A) (𝓣 : Tables 𝓤 H) (known0 : Known 𝓤 H A W 𝓣 2 ps·0 r·0 (claims· .0) (claims· .1) "build::floor::compute_top_floor") (known1 : Known 𝓤 H A W 𝓣 0 ps·1 r·1 (claims· .2) (claims· .3) "model::phases::no_tally") (known2 : Known 𝓤 H A W 𝓣 5 ps·2 r·2 (claims· .4) (claims· .5) "model::phases::seed_phase") (known3 : Known 𝓤 H A W 𝓣 7 ps·3 r·3 (claims· .6) (claims· .7) "model::phases::later_phases") (known4 : Known 𝓤 H A W 𝓣 2 ps·4 r·4 (claims· .8) (claims· .9) "model::phases::note_dropped") → Triple 𝓤 (WpFn 𝓤 H (𝓣 .C) (𝓣 .Λ) (fnOf 6 ps r xs m hs body)) (plainOf 𝓤 H A 6 ps r Pre· Post·)
+      Closed = (𝓤 : URA M) (H : Heap 𝓤) (A : Atoms 𝓤) (W : Given 𝓤 H A) (𝓣 : Tables 𝓤 H) (known0 : Known 𝓤 H A W 𝓣 2 ps·0 r·0 (claims· .0) (claims· .1) "atoms::floor::compute_top_floor") (known1 : Known 𝓤 H A W 𝓣 0 ps·1 r·1 (claims· .2) (claims· .3) "model::phases::no_tally") (known2 : Known 𝓤 H A W 𝓣 5 ps·2 r·2 (claims· .4) (claims· .5) "model::phases::seed_phase") (known3 : Known 𝓤 H A W 𝓣 7 ps·3 r·3 (claims· .6) (claims· .7) "model::phases::later_phases") (known4 : Known 𝓤 H A W 𝓣 2 ps·4 r·4 (claims· .8) (claims· .9) "model::phases::note_dropped") → Triple 𝓤 (WpFn 𝓤 H (𝓣 .C) (𝓣 .Λ) (fnOf 6 ps r xs m hs body)) (plainOf 𝓤 H A 6 ps r Pre· Post·)
 
     module _ where
       abbrev at0 : TF T100 O0
@@ -1796,7 +1796,7 @@ module _ (claims· : Claims) where
 
       module _ {M : Type 1} (𝓤 : URA M) (H : Heap 𝓤) (A : Atoms 𝓤) (W : Given 𝓤 H A) (𝓣 : Tables 𝓤 H) where
         abbrev Knowns : Type 1
-        Knowns = Known 𝓤 H A W 𝓣 2 ps·0 r·0 (claims· .0) (claims· .1) "build::floor::compute_top_floor" × Known 𝓤 H A W 𝓣 0 ps·1 r·1 (claims· .2) (claims· .3) "model::phases::no_tally" × Known 𝓤 H A W 𝓣 5 ps·2 r·2 (claims· .4) (claims· .5) "model::phases::seed_phase" × Known 𝓤 H A W 𝓣 7 ps·3 r·3 (claims· .6) (claims· .7) "model::phases::later_phases" × Known 𝓤 H A W 𝓣 2 ps·4 r·4 (claims· .8) (claims· .9) "model::phases::note_dropped"
+        Knowns = Known 𝓤 H A W 𝓣 2 ps·0 r·0 (claims· .0) (claims· .1) "atoms::floor::compute_top_floor" × Known 𝓤 H A W 𝓣 0 ps·1 r·1 (claims· .2) (claims· .3) "model::phases::no_tally" × Known 𝓤 H A W 𝓣 5 ps·2 r·2 (claims· .4) (claims· .5) "model::phases::seed_phase" × Known 𝓤 H A W 𝓣 7 ps·3 r·3 (claims· .6) (claims· .7) "model::phases::later_phases" × Known 𝓤 H A W 𝓣 2 ps·4 r·4 (claims· .8) (claims· .9) "model::phases::note_dropped"
 
       module _ (κs : Lfts 6) (qs : Shares 6) where
         abbrev e86 : Entry
@@ -2641,7 +2641,7 @@ module _ (claims· : Claims) where
           d90 = g-pre 𝓤 H A W 𝓣 E G10 G11 b55 Δ0 (pass T10 T11 s9) at89 (g-room 𝓤 H A W E G10 10 tyUnit (room-sc 𝓤 H A W sUnit)) d89
 
           d91 : Typed 𝓤 H A 𝓣 E G9 b56 Δ0 at91
-          d91 = s-seq 𝓤 H A W 𝓣 E G9 G10 b2 b55 Δ0 (both s8) at90 (t-call-plain 𝓤 H A W 𝓣 2 ps·0 r·0 (claims· .0) (claims· .1) "build::floor::compute_top_floor" (known .0) E (λ pos β. β) G9 (record { pos = 1; ty = tyRef (named 0) imm y2; ref = λ x. x }, (record { pos = 12; ty = tyRef erased mut y1; ref = λ x. x }, tt)) 10 n2 (sub-id 𝓤 H A W (G9 .slots)) (spares-sslice 𝓤 H A W (rtF (fInt Syntax.w8)) (tyRef (named 0) imm y2) 0, reads-sslice 𝓤 H A W (rtF (fInt Syntax.w8)) (tyRef (named 0) imm y2) 0, refl, (as-is 𝓤 H A (mslice (rtF (fInt Syntax.w64)) y7 6), reads-mslice 𝓤 H A W (rtF (fInt Syntax.w64)) y7 6, refl, tt)) (room-gone 𝓤 H A tyUnit) (tt, (tt, tt)) refl) d90
+          d91 = s-seq 𝓤 H A W 𝓣 E G9 G10 b2 b55 Δ0 (both s8) at90 (t-call-plain 𝓤 H A W 𝓣 2 ps·0 r·0 (claims· .0) (claims· .1) "atoms::floor::compute_top_floor" (known .0) E (λ pos β. β) G9 (record { pos = 1; ty = tyRef (named 0) imm y2; ref = λ x. x }, (record { pos = 12; ty = tyRef erased mut y1; ref = λ x. x }, tt)) 10 n2 (sub-id 𝓤 H A W (G9 .slots)) (spares-sslice 𝓤 H A W (rtF (fInt Syntax.w8)) (tyRef (named 0) imm y2) 0, reads-sslice 𝓤 H A W (rtF (fInt Syntax.w8)) (tyRef (named 0) imm y2) 0, refl, (as-is 𝓤 H A (mslice (rtF (fInt Syntax.w64)) y7 6), reads-mslice 𝓤 H A W (rtF (fInt Syntax.w64)) y7 6, refl, tt)) (room-gone 𝓤 H A tyUnit) (tt, (tt, tt)) refl) d90
 
           d92 : Typed 𝓤 H A 𝓣 E G8 b57 Δ0 at92
           d92 = s-seq 𝓤 H A W 𝓣 E G8 G9 b1 b56 Δ0 (ask s7) at91 (t-sl-aggregate 𝓤 H A W E (rtF (fInt Syntax.w64)) 𝓣 (asMut (rtF (fInt Syntax.w64))) G8 11 12 6 y7 y7 (λ x. x) (oFld 4 ((field 1) ∷ []) y1 8 λ v. lenV (v .0)) (as-is 𝓤 H A (msptr (rtF (fInt Syntax.w64)) y7 6)) (room-gone 𝓤 H A y11) (reads-owed-len 𝓤 H A W (rtF (fInt Syntax.w64)) (tyRef (named 1) mut y1) 1 6 k0 8 refl, refl) refl refl λ b o k. tt) d91
@@ -3482,6 +3482,6 @@ module _ (claims· : Claims) where
           pub asked : (a : Dens κs ps) → (good : GoodsP κs ps a) → (pre : Pre· κs a) → (bs : List ℕ) → Φ (wantQ 6 ps r xs m κs qs a (Post· κs a)) (init 6 ps r xs m κs qs a)
           asked = λ a good pre bs. laid record { κs = κs; args = record { deck = a .0; bounds = a .1 .0; last-phase = a .1 .1 .0; floor = a .1 .1 .1 .0; label = a .1 .1 .1 .1 .0; labels = a .1 .1 .1 .1 .1 .0; edges = a .1 .1 .1 .1 .1 .1 .0; log = a .1 .1 .1 .1 .1 .1 .1 .0 }; good = good; fits = record { last-phase = record { fits = good .1 .1 .0 .1 } }; pre = pre }
 
-        module _ {M : Type 1} (𝓤 : URA M) (H : Heap 𝓤) (A : Atoms 𝓤) (W : Given 𝓤 H A) (𝓣 : Tables 𝓤 H) (known0 : Known 𝓤 H A W 𝓣 2 ps·0 r·0 (claims· .0) (claims· .1) "build::floor::compute_top_floor") (known1 : Known 𝓤 H A W 𝓣 0 ps·1 r·1 (claims· .2) (claims· .3) "model::phases::no_tally") (known2 : Known 𝓤 H A W 𝓣 5 ps·2 r·2 (claims· .4) (claims· .5) "model::phases::seed_phase") (known3 : Known 𝓤 H A W 𝓣 7 ps·3 r·3 (claims· .6) (claims· .7) "model::phases::later_phases") (known4 : Known 𝓤 H A W 𝓣 2 ps·4 r·4 (claims· .8) (claims· .9) "model::phases::note_dropped") where
+        module _ {M : Type 1} (𝓤 : URA M) (H : Heap 𝓤) (A : Atoms 𝓤) (W : Given 𝓤 H A) (𝓣 : Tables 𝓤 H) (known0 : Known 𝓤 H A W 𝓣 2 ps·0 r·0 (claims· .0) (claims· .1) "atoms::floor::compute_top_floor") (known1 : Known 𝓤 H A W 𝓣 0 ps·1 r·1 (claims· .2) (claims· .3) "model::phases::no_tally") (known2 : Known 𝓤 H A W 𝓣 5 ps·2 r·2 (claims· .4) (claims· .5) "model::phases::seed_phase") (known3 : Known 𝓤 H A W 𝓣 7 ps·3 r·3 (claims· .6) (claims· .7) "model::phases::later_phases") (known4 : Known 𝓤 H A W 𝓣 2 ps·4 r·4 (claims· .8) (claims· .9) "model::phases::note_dropped") where
           pub spec : Triple 𝓤 (WpFn 𝓤 H (𝓣 .C) (𝓣 .Λ) (fnOf 6 ps r xs m hs body)) (plainOf 𝓤 H A 6 ps r Pre· Post·)
           spec = t-fn-plain 𝓤 H A W 𝓣 6 ps r xs m hs body (λ κs qs bs. Φ) (λ κs qs bs bd. typed κs qs 𝓤 H A W 𝓣 (known0, known1, known2, known3, known4) bs bd) Pre· Post· asked

@@ -3,7 +3,7 @@ use native.Mathlib.Omega.{arith}
 use Prim.Native.Nat.{_-_, _≤_}
 use mathlib.Core.Path.{_≡_, refl, _∙_}
 use lib.ListN.{length}
-use Rattle.build.specs.Rows.{rowsOf}
+use Rattle.atoms.specs.Rows.{rowsOf}
 use Rattle.build.specs.Prints.{Chained}
 use Rattle.build.proofs.PrintLaws.{chained-row}
 use Rattle.model.proofs.recall.chain_labels.Statement.{statement}

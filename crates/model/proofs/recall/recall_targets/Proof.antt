@@ -4,7 +4,7 @@ use mathlib.Core.Path.{_≡_, refl, _∙_}
 use lib.ListN.{length}
 use Rattle.deck.specs.Content.{deckOf}
 use Rattle.eval.specs.Lent.{labelWidth}
-use Rattle.build.specs.Rows.{rowsOf}
+use Rattle.atoms.specs.Rows.{rowsOf}
 use Rattle.model.specs.FactIndex.{Recalled}
 use Rattle.model.proofs.recall.recall_targets.Statement.{statement}
 use Rattle.model.proofs.recall.recall_targets.Tie as tie

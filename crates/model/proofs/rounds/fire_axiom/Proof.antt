@@ -1,5 +1,5 @@
 use Rattle.deck.proofs.MatchLaws.{at-least}
-use Rattle.build.proofs.FloorLaws.{axiom-fits}
+use Rattle.atoms.proofs.FloorLaws.{axiom-fits}
 use Rattle.build.proofs.BuildLaws.{built-is, built-same}
 use Rattle.model.proofs.RoundLaws.{sub-class-fires, equivalent-fires, other-fires}
 use borrow.Author.Needs.{needs}

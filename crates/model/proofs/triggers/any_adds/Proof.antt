@@ -9,7 +9,7 @@ use Rattle.deck.specs.Reads.{listOf}
 use Rattle.deck.proofs.TableLaws.{list-length}
 use Rattle.eval.specs.Lists.{any}
 use Rattle.model.specs.Triggers.{mayAdd}
-use Rattle.build.proofs.ListWalks.{any-end, any-step, any-stop}
+use Rattle.atoms.proofs.ListWalks.{any-end, any-step, any-stop}
 use Rattle.model.proofs.triggers.any_adds.Statement.{statement}
 use Rattle.model.proofs.triggers.any_adds.Tie as tie
 

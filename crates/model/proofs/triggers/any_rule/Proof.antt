@@ -8,8 +8,8 @@ use Rattle.deck.specs.Content.{deckOf}
 use Rattle.deck.specs.Reads.{listOf}
 use Rattle.deck.proofs.TableLaws.{list-length}
 use Rattle.eval.specs.Lists.{any}
-use Rattle.build.specs.Antecedent.{isRule}
-use Rattle.build.proofs.ListWalks.{any-end, any-step, any-stop}
+use Rattle.atoms.specs.Antecedent.{isRule}
+use Rattle.atoms.proofs.ListWalks.{any-end, any-step, any-stop}
 use Rattle.model.proofs.triggers.any_rule.Statement.{statement}
 use Rattle.model.proofs.triggers.any_rule.Tie as tie
 

@@ -1,4 +1,4 @@
-use Rattle.build.proofs.FloorLaws.{fits-read}
+use Rattle.atoms.proofs.FloorLaws.{fits-read}
 use Rattle.model.proofs.TriggerLaws.{needs-atomic, needs-nothing}
 use borrow.Author.Needs.{needs}
 use Rattle.model.proofs.triggers.atom_of.Statement.{statement}

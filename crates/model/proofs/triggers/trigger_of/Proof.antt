@@ -1,5 +1,5 @@
 use Rattle.deck.proofs.MatchLaws.{at-least}
-use Rattle.build.proofs.FloorLaws.{axiom-fits, axiom-sub-class, axiom-equivalent}
+use Rattle.atoms.proofs.FloorLaws.{axiom-fits, axiom-sub-class, axiom-equivalent}
 use Rattle.model.proofs.TriggerLaws.{trigger-is, trigger-other}
 use borrow.Author.Needs.{needs}
 use Rattle.model.proofs.triggers.trigger_of.Statement.{statement}

@@ -1,0 +1,14 @@
+pub mod BitLaws
+pub mod RowLaws
+pub mod LabelLaws
+pub mod ListWalks
+pub mod MemberLaws
+pub mod FloorLaws
+pub mod WalkLaws
+pub mod TargetLaws
+pub mod BodyLaws
+pub mod OccurrenceLaws
+pub mod AntecedentLaws
+pub mod LeafLaws
+pub mod JoinLaws
+pub mod LargeLaws

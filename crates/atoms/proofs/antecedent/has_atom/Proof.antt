@@ -1,0 +1,26 @@
+use mathlib.Core.Bool.{Bool, true, false, not}
+use mathlib.Core.Path.{_≡_, refl, sym, ap, _∙_}
+use denote.Ref.{now}
+use Rattle.deck.specs.Content.{deckOf}
+use Rattle.deck.proofs.SoundLaws.{sound}
+use Rattle.atoms.specs.Antecedent.{hasAtom}
+use Rattle.atoms.proofs.LeafLaws.{atom-leaves}
+use borrow.Author.Needs.{needs}
+use Rattle.atoms.proofs.antecedent.has_atom.Statement.{statement}
+use Rattle.atoms.proofs.antecedent.has_atom.Tie as tie
+
+not-not : (b : Bool) → not (not b) ≡ b
+not-not true = refl
+not-not false = refl
+
+slice-aggregate-every-leaf : tie.Need-slice-aggregate-every-leaf
+slice-aggregate-every-leaf c = search needs
+
+every-leaf-requires : tie.Need-every-leaf-requires
+every-leaf-requires c κs = search needs
+
+returns : tie.Need-returns
+returns c = let z = c .before .before .before in ap not (c .every-leaf .ensures ∙ sym (atom-leaves _ (sound _ (z .pre .0)) (z .args .concept .0))) ∙ not-not (hasAtom (deckOf (now (z .args .deck))) (z .args .concept .0))
+
+pub has-atom-spec : {M : Type 1} → statement M
+has-atom-spec = tie.close (tie.spec slice-aggregate-every-leaf every-leaf-requires returns)

@@ -1,0 +1,11 @@
+pub mod Label
+pub mod Rows
+pub mod Floor
+pub mod Reasons
+pub mod Walk
+pub mod Target
+pub mod Occurrences
+pub mod Antecedent
+pub mod Leaves
+pub mod Large
+pub mod Body
