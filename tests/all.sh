@@ -61,7 +61,7 @@ for language in "c99 cc -std=c99" "c++17 c++ -x c++ -std=c++17"; do
     try "tests/empty.c compiles as $standard" compile "empty-$standard" tests/empty.c "$@"
     try "empty buffers may be NULL ($standard)" "$made/empty-$standard"
 done
-for maker in decks judgements runs reports; do
+for maker in decks judgements universals runs reports; do
     try "test data of make_$maker.py" python3 tests/make_$maker.py --check
 done
 try "the Rust wrapper's tests" wrapper
