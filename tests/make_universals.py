@@ -94,7 +94,7 @@ def chained(d, count):
     return d
 
 
-# Each construct over Top, but for And; the first is over nothing.
+# Each construct but And; its operands, if it has any, are concept 0, which is Top.
 CONSTRUCTS = (('top', TOP), ('bot', BOT), ('atomic', ATOMIC, 0), ('nominal', NOMINAL, 0), ('self', SELF, named(0)),
               ('self-inverse', SELF, inverse(0)), ('not', NOT, 0), ('or-of-none', OR, []), ('or', OR, [0]),
               ('or-of-two', OR, [0, 0]), ('some', SOME, named(0), 0), ('some-inverse', SOME, inverse(0), 0),
@@ -128,7 +128,7 @@ def refused():
     case('refused-range', 'refused', d.edited(('lists', len(d.lists) - 1, 61)))
     case('refused-itself', 'refused', d.edited(('lists', len(d.lists) - 1, 60)))
     case('refused-filled', 'refused', d.edited(('concepts', 60, 3, 1)))
-    case('refused-not', 't' * 61, d)
+    case('not-refused', 't' * 61, d)
     case('refused-last-axiom', 'refused', base().edited(('axioms', 25, 0, 26)))
 
 
@@ -247,6 +247,11 @@ def edges():
                  (AND, [at + 5, at + 3]), (AND, [at + 5, at + 5]))
         assert len(d.concepts) <= MOST
         case('and-at-%d' % at, 'tftf' + 'f' * (at - 4) + 'tftfttfft', d)
+    # What the last And of all lists, after an And, is the number below its own.
+    for name, last, letter in (('top', (TOP,), 't'), ('bot', (BOT,), 'f'), ('and-of-top', (AND, [0]), 't'),
+                               ('and-of-bot', (AND, [1]), 'f')):
+        d = pool((TOP,), *[(BOT,)] * (MOST - 4), (AND, [0]), last, (AND, [MOST - 3, MOST - 2]))
+        case('last-lists-' + name, 't' + 'f' * (MOST - 4) + 't' + letter * 2, d)
     # Each number an And; with Bot in the And of one number, before or after the one below it.
     case('chain-top', 't' * 201, chained(pool((TOP,)), 200))
     case('chain-bot', 'f' * 201, chained(pool((BOT,)), 200))
