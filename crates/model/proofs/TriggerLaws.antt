@@ -6,8 +6,8 @@
 --     trigger-sub, …, pair-both             an axiom's trigger
 --     entry-plain, entry-run, table-next    the table's entries
 --     steps, pass-first, pass-over          from one axiom to the next that may add something
-use Prim.Native.Nat.{ℕ, suc, _+_, _-_, _*_, _/_, _%_, _<_, _≤_}
-use mathlib.Core.Bool.{Bool, true, false, cond, _&&_}
+use Prim.Native.Nat.{ℕ, zero, suc, _+_, _-_, _*_, _/_, _%_, _<_, _≤_}
+use mathlib.Core.Bool.{Bool, true, false, cond, _&&_, _||_}
 use mathlib.Core.Path.{_≡_, refl, sym, ap, _∙_}
 use mathlib.Core.List.{List, [], _∷_, map, List·Memᴰ as Member}
 use mathlib.Core.Logic.{⊎-elim}
@@ -16,7 +16,7 @@ use native.Mathlib.Omega.{arith}
 use lib.ListN.{length, getD, set, drop, length-set}
 use lib.Seq.{getD-set-same, getD-set-other}
 use lib.Dec.{eqb}
-use borrow.Author.Tests.{lt-ltb, le-ltb}
+use borrow.Author.Tests.{lt-ltb, le-ltb, eqb-true}
 use types.Run.{OneOf, miss}
 use denote.Enum.Declared.{tagOf}
 use Rattle.deck.proofs.concepts.ConceptExpr.{the-type}
@@ -32,7 +32,7 @@ use Rattle.deck.specs.Reads.{ConceptRead, exprOf, listOf, ListFits, AxiomRead}
 use Rattle.deck.proofs.CaseLaws.{lt-or-le}
 use Rattle.eval.specs.Lists.{every, any}
 use Rattle.eval.specs.Lent.{bit, labelWidth, memberIn}
-use Rattle.eval.specs.Numbered.{numbered}
+use Rattle.eval.specs.Numbered.{numbered, below}
 use Rattle.eval.proofs.Clash.{clash}
 use Rattle.eval.proofs.ListLaws.{every-at, none-at, member-at}
 use Rattle.build.specs.declared.bounds.Bounds.{Bounds}
@@ -41,10 +41,10 @@ use Rattle.atoms.specs.Walk.{walk}
 use Rattle.build.specs.declared.tally.Tally.{Tally}
 use Rattle.atoms.specs.Rows.{rowsOf}
 use Rattle.build.specs.Model.{Model, Buffers, Prepared}
-use Rattle.build.specs.Exists.{workOf, workStep, work}
+use Rattle.build.specs.Exists.{workOf, workStep, idle, work}
 use Rattle.model.specs.Rounds.{fire, firePair, fireFrom, fireAxiom}
 use Rattle.atoms.specs.Antecedent.{isRule, holdsAtoms}
-use Rattle.model.specs.Triggers.{builds, mayAdd, Needs, Idle, Trigger, Entry, Triggers, runAt, stepOf, stepIn, Chain, Steps}
+use Rattle.model.specs.Triggers.{builds, buildsAt, addsAs, mayAdd, Needs, Idle, Trigger, Entry, Triggers, runAt, stepOf, stepIn, Chain, Steps}
 use Rattle.atoms.proofs.FloorLaws.{read-is}
 use Rattle.atoms.proofs.MemberLaws.{label-member}
 use Rattle.atoms.proofs.WalkLaws.{walk-keeps, walk-fixed}
@@ -70,9 +70,44 @@ no-build D floor B f e m (Concept.All r b) h = refl
 no-build D floor B f e m (Concept.Min n r b) h = refl
 no-build D floor B f e m (Concept.Max n r b) h = refl
 
+-- what a walk does from a concept that does not go further, whatever is below it
+below-idle : (D : Deck) (floor : List ℕ) (B : Bounds) (n o e : ℕ) (m : Model) → buildsAt D o ≡ false → below (idle D floor B) (workStep D floor B) n o e m ≡ m
+unfolding below workStep buildsAt
+below-idle D floor B zero o e m h = refl
+below-idle D floor B (suc n) o e m h = go (eqb o n) refl (below-idle D floor B n o e m h)
+  where
+    go : (b : Bool) → eqb o n ≡ b → below (idle D floor B) (workStep D floor B) n o e m ≡ m → cond b (workStep D floor B n (below (idle D floor B) (workStep D floor B) n)) (below (idle D floor B) (workStep D floor B) n o) e m ≡ m
+    go true q ih = either (m .state .tripped) refl (no-build D floor B _ e m (conceptAt D n) (ap (λ (k : ℕ). builds (conceptAt D k)) (sym (eqb-true o n q)) ∙ h))
+    go false q ih = ih
+
+or-both : (a b : Bool) → (a || b) ≡ false → (a ≡ false) × (b ≡ false)
+or-both true b e = clash (cc)
+or-both false b e = (refl, e)
+
+walk-idle : (D : Deck) (f : ℕ → Model → Model) (l : List ℕ) (m : Model) → any (map (buildsAt D) l) ≡ false → ((o : ℕ) → buildsAt D o ≡ false → f o m ≡ m) → walk f l m ≡ m
+unfolding walk any
+walk-idle D f [] m h q = refl
+walk-idle D f (x ∷ xs) m h q = let p = or-both (buildsAt D x) (any (map (buildsAt D) xs)) h in rw (q x (p .0)) (walk-idle D f xs m (p .1) q)
+
+adds-idle : (D : Deck) (floor : List ℕ) (B : Bounds) (c e : ℕ) (m : Model) (k : Concept) → k ≡ conceptAt D c → addsAs D c k ≡ false → workOf D floor B (below (idle D floor B) (workStep D floor B) c) k e m ≡ m
+unfolding workOf buildsAt
+adds-idle D floor B c e m (Concept.And l) q h = walk-idle D (λ o. below (idle D floor B) (workStep D floor B) c o e) l m h (λ o p. below-idle D floor B c o e m p)
+adds-idle D floor B c e m (Concept.Some (Role.Named r) b) q h = let z : true ≡ false = ap builds q ∙ h in clash (cc)
+adds-idle D floor B c e m (Concept.Some (Role.Inverse r) b) q h = refl
+adds-idle D floor B c e m Concept.Top q h = refl
+adds-idle D floor B c e m Concept.Bot q h = refl
+adds-idle D floor B c e m (Concept.Atomic k) q h = refl
+adds-idle D floor B c e m (Concept.Nominal i) q h = refl
+adds-idle D floor B c e m (Concept.SelfRestriction r) q h = refl
+adds-idle D floor B c e m (Concept.Not b) q h = refl
+adds-idle D floor B c e m (Concept.Or l) q h = refl
+adds-idle D floor B c e m (Concept.All r b) q h = refl
+adds-idle D floor B c e m (Concept.Min n r b) q h = refl
+adds-idle D floor B c e m (Concept.Max n r b) q h = refl
+
 work-idle : (D : Deck) (floor : List ℕ) (B : Bounds) (c e : ℕ) (m : Model) → mayAdd D c ≡ false → work D floor B c e m ≡ m
 unfolding work numbered workStep mayAdd
-work-idle D floor B c e m h = either (m .state .tripped) refl (no-build D floor B _ e m (conceptAt D c) h)
+work-idle D floor B c e m h = either (m .state .tripped) refl (adds-idle D floor B c e m (conceptAt D c) refl h)
 
 -- a concept that is neither an And nor a Some
 not-builds : (s : List ℕ) (v : ConceptExpr) → OneOf (0 ∷ 1 ∷ 2 ∷ 3 ∷ 4 ∷ 5 ∷ 7 ∷ 9 ∷ 10 ∷ 11 ∷ []) (tagOf the-type v) → false ≡ builds (exprOf s v)
@@ -90,22 +125,47 @@ not-builds s (ConceptExpr.Min n r b) h = refl
 not-builds s (ConceptExpr.Max n r b) h = refl
 
 module _ (s : List ℕ) (A : IsAccepted s) (c : ℕ) {expr : ConceptExpr} (R : ConceptRead s c expr) where
-  adds-read : (v : ConceptExpr) → expr ≡ v → builds (exprOf s v) ≡ mayAdd (deckOf s) c
-  unfolding mayAdd
-  adds-read v p = ap builds (read-is s A c R v p)
+  builds-read : (v : ConceptExpr) → expr ≡ v → builds (exprOf s v) ≡ buildsAt (deckOf s) c
+  unfolding buildsAt
+  builds-read v p = ap builds (read-is s A c R v p)
 
-  pub adds-and : (l : Span) → expr ≡ ConceptExpr.And l → true ≡ mayAdd (deckOf s) c
-  adds-and l p = adds-read _ p
+  pub builds-and : (l : Span) → expr ≡ ConceptExpr.And l → true ≡ buildsAt (deckOf s) c
+  builds-and l p = builds-read _ p
 
   module _ (w : RoleWord) (k : ConceptId) (p : expr ≡ ConceptExpr.Some w k) where
-    pub adds-inverse : inverseWord (w .0) ≡ true → false ≡ mayAdd (deckOf s) c
-    adds-inverse h = sym (ap (λ (b : Bool). builds (Concept.Some (cond b (Role.Inverse (roleNumber (w .0))) (Role.Named (roleNumber (w .0)))) (k .0))) h) ∙ adds-read _ p
+    pub builds-inverse : inverseWord (w .0) ≡ true → false ≡ buildsAt (deckOf s) c
+    builds-inverse h = sym (ap (λ (b : Bool). builds (Concept.Some (cond b (Role.Inverse (roleNumber (w .0))) (Role.Named (roleNumber (w .0)))) (k .0))) h) ∙ builds-read _ p
 
-    pub adds-named : inverseWord (w .0) ≡ false → true ≡ mayAdd (deckOf s) c
-    adds-named h = sym (ap (λ (b : Bool). builds (Concept.Some (cond b (Role.Inverse (roleNumber (w .0))) (Role.Named (roleNumber (w .0)))) (k .0))) h) ∙ adds-read _ p
+    pub builds-named : inverseWord (w .0) ≡ false → true ≡ buildsAt (deckOf s) c
+    builds-named h = sym (ap (λ (b : Bool). builds (Concept.Some (cond b (Role.Inverse (roleNumber (w .0))) (Role.Named (roleNumber (w .0)))) (k .0))) h) ∙ builds-read _ p
 
-  pub adds-other : OneOf (0 ∷ 1 ∷ 2 ∷ 3 ∷ 4 ∷ 5 ∷ 7 ∷ 9 ∷ 10 ∷ 11 ∷ []) (tagOf the-type expr) → false ≡ mayAdd (deckOf s) c
-  adds-other h = not-builds s expr h ∙ adds-read expr refl
+  pub builds-other : OneOf (0 ∷ 1 ∷ 2 ∷ 3 ∷ 4 ∷ 5 ∷ 7 ∷ 9 ∷ 10 ∷ 11 ∷ []) (tagOf the-type expr) → false ≡ buildsAt (deckOf s) c
+  builds-other h = not-builds s expr h ∙ builds-read expr refl
+
+  -- and whether it may add something
+  adds-read : (v : ConceptExpr) → expr ≡ v → addsAs (deckOf s) c (exprOf s v) ≡ mayAdd (deckOf s) c
+  unfolding mayAdd
+  adds-read v p = ap (addsAs (deckOf s) c) (read-is s A c R v p)
+
+  pub adds-and : (l : Span) → expr ≡ ConceptExpr.And l → any (map (buildsAt (deckOf s)) (listOf s l)) ≡ mayAdd (deckOf s) c
+  adds-and l p = adds-read _ p
+
+  pub adds-other : OneOf (0 ∷ 1 ∷ 2 ∷ 3 ∷ 4 ∷ 5 ∷ 7 ∷ 8 ∷ 9 ∷ 10 ∷ 11 ∷ []) (tagOf the-type expr) → buildsAt (deckOf s) c ≡ mayAdd (deckOf s) c
+  adds-other h = by expr h ∙ adds-read expr refl
+    where
+      by : (v : ConceptExpr) → OneOf (0 ∷ 1 ∷ 2 ∷ 3 ∷ 4 ∷ 5 ∷ 7 ∷ 8 ∷ 9 ∷ 10 ∷ 11 ∷ []) (tagOf the-type v) → buildsAt (deckOf s) c ≡ addsAs (deckOf s) c (exprOf s v)
+      by ConceptExpr.Top h = refl
+      by ConceptExpr.Bot h = refl
+      by (ConceptExpr.Atomic k) h = refl
+      by (ConceptExpr.Nominal i) h = refl
+      by (ConceptExpr.SelfRestriction r) h = refl
+      by (ConceptExpr.Not b) h = refl
+      by (ConceptExpr.And l) h = absurd (miss (0 ∷ 1 ∷ 2 ∷ 3 ∷ 4 ∷ 5 ∷ 7 ∷ 8 ∷ 9 ∷ 10 ∷ 11 ∷ []) 6 tt h)
+      by (ConceptExpr.Or l) h = refl
+      by (ConceptExpr.Some r b) h = refl
+      by (ConceptExpr.All r b) h = refl
+      by (ConceptExpr.Min n r b) h = refl
+      by (ConceptExpr.Max n r b) h = refl
 
 -- ---- rules that add nothing
 and-false : (a : Bool) → (a && false) ≡ false

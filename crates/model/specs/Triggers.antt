@@ -1,18 +1,19 @@
 -- What an axiom's rules need before they can add something: what the table that the rounds read promises.
 use Prim.Native.Nat.{ℕ, _+_, _-_, _/_, _%_, _<_, _≤_}
 use mathlib.Core.Bool.{Bool, true, false, cond}
-use mathlib.Core.List.{List, []}
+use mathlib.Core.List.{List, [], map}
 use mathlib.Core.Path.{_≡_}
 use lib.ListN.{length, getD}
 use lib.Dec.{ltb}
 use Rattle.deck.specs.Deck.{Deck, Concept, Role, Axiom, classCount, conceptAt, axiomCount, axiomAt}
 use Rattle.eval.specs.Lent.{bit}
+use Rattle.eval.specs.Lists.{any}
 use Rattle.build.specs.declared.bounds.Bounds.{Bounds}
 use Rattle.atoms.specs.Label.{labelHas}
 use Rattle.build.specs.Model.{Model}
 use Rattle.model.specs.Rounds.{fireAxiom}
 
--- a consequent that may add something: "Other constructs add nothing"
+-- a consequent that goes further: "Other constructs add nothing"
 abbrev pub builds : Concept → Bool
 builds (Concept.And l) = true
 builds (Concept.Some (Role.Named r) b) = true
@@ -28,8 +29,26 @@ builds (Concept.All r b) = false
 builds (Concept.Min n r b) = false
 builds (Concept.Max n r b) = false
 
+unfoldable pub buildsAt : Deck → ℕ → Bool
+buildsAt D c = builds (conceptAt D c)
+
+-- a consequent that may add something: an And where an operand goes further
+abbrev pub addsAs : Deck → ℕ → Concept → Bool
+addsAs D c (Concept.And l) = any (map (buildsAt D) l)
+addsAs D c (Concept.Some r b) = buildsAt D c
+addsAs D c Concept.Top = buildsAt D c
+addsAs D c Concept.Bot = buildsAt D c
+addsAs D c (Concept.Atomic k) = buildsAt D c
+addsAs D c (Concept.Nominal i) = buildsAt D c
+addsAs D c (Concept.SelfRestriction r) = buildsAt D c
+addsAs D c (Concept.Not b) = buildsAt D c
+addsAs D c (Concept.Or l) = buildsAt D c
+addsAs D c (Concept.All r b) = buildsAt D c
+addsAs D c (Concept.Min n r b) = buildsAt D c
+addsAs D c (Concept.Max n r b) = buildsAt D c
+
 unfoldable pub mayAdd : Deck → ℕ → Bool
-mayAdd D c = builds (conceptAt D c)
+mayAdd D c = addsAs D c (conceptAt D c)
 
 -- a number below 4,096 is a class without which p holds of no label
 pub record Needs (D : Deck) (p : List ℕ → Bool) (w : ℕ) : Type 0 where

@@ -9,7 +9,7 @@ ghost use Rattle.deck.specs.Reads.{listOf, ListFits};
 ghost use Rattle.eval.specs.Lists.{every, any};
 ghost use Rattle.eval.specs.Lent.{bit, labelWidth};
 ghost use Rattle.atoms.specs.Antecedent.{isRule, holdsAtoms};
-ghost use Rattle.model.specs.Triggers.{mayAdd, Needs, Trigger, Entry, Triggers, runAt, stepIn, Chain, Steps};
+ghost use Rattle.model.specs.Triggers.{buildsAt, mayAdd, Needs, Trigger, Entry, Triggers, runAt, stepIn, Chain, Steps};
 use atoms::antecedent::is_rule;
 use deck::axioms::axiom_at;
 use deck::axioms::axiom_count;
@@ -22,11 +22,11 @@ use deck::rows::item;
 use eval::labels::bit_of;
 use eval::labels::label_width;
 
-// May the concept add something as a consequent?
-pub fn may_add(deck: &[u8], concept: ConceptId) -> bool
+// Is it a consequent that goes further: an And, or a Some with a named role?
+fn builds_at(deck: &[u8], concept: ConceptId) -> bool
     requires { ⌜ IsAccepted (now deck) ⌝ }
     requires { ⌜ concept .0 < conceptCount (deckOf (now deck)) ⌝ }
-    ensures { λ r. ⌜ r ≡ mayAdd (deckOf (now (deck .entry))) (concept .0) ⌝ }
+    ensures { λ r. ⌜ r ≡ buildsAt (deckOf (now (deck .entry))) (concept .0) ⌝ }
 {
     let expr = concept_at(deck, concept);
     match expr {
@@ -38,6 +38,37 @@ pub fn may_add(deck: &[u8], concept: ConceptId) -> bool
             true
         }
         _ => false,
+    }
+}
+
+// Does an operand go further, of a list all below `owner`?
+fn any_builds(deck: &[u8], owner: ConceptId, list: Span) -> bool
+    requires { ⌜ IsAccepted (now deck) ⌝ }
+    requires { ⌜ owner .0 < conceptCount (deckOf (now deck)) ⌝ }
+    requires { ⌜ ListFits (now deck) (owner .0) list ⌝ }
+    ensures { λ r. ⌜ r ≡ any (map (buildsAt (deckOf (now (deck .entry)))) (listOf (now (deck .entry)) list)) ⌝ }
+{
+    let count = list.count;
+    let mut i = 0;
+    while i < count {
+        if builds_at(deck, ConceptId(item(deck, list, i))) {
+            return true;
+        }
+        i += 1;
+    }
+    false
+}
+
+// May the concept add something as a consequent? An And of atoms does not.
+pub fn may_add(deck: &[u8], concept: ConceptId) -> bool
+    requires { ⌜ IsAccepted (now deck) ⌝ }
+    requires { ⌜ concept .0 < conceptCount (deckOf (now deck)) ⌝ }
+    ensures { λ r. ⌜ r ≡ mayAdd (deckOf (now (deck .entry))) (concept .0) ⌝ }
+{
+    let expr = concept_at(deck, concept);
+    match expr {
+        ConceptExpr::And(list) => any_builds(deck, concept, list),
+        _ => builds_at(deck, concept),
     }
 }
 

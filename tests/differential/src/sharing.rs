@@ -14,7 +14,8 @@ pub fn add(rng: &mut Rng, parts: &mut Parts) -> (Vec<&'static str>, u64) {
         return (places, 0);
     }
     if parts.roles.is_empty() {
-        parts.roles.push([0; 4]);
+        let [start, count] = list(rng, parts, &[0]);
+        parts.roles.push([start, count, 0, 0]);
     }
     for _ in 0..1 + rng.below(3) {
         let role = if rng.chance(50) { delta_role(rng, parts) } else { rng.word(parts.roles.len()) };

@@ -1,42 +1,29 @@
-use mathlib.Core.Path.{sym, _∙_}
-use Rattle.model.proofs.TriggerLaws.{adds-and, adds-inverse, adds-named, adds-other}
+use mathlib.Core.Path.{_∙_}
 use borrow.Author.Needs.{needs}
+use Rattle.atoms.proofs.FloorLaws.{fits-read}
+use Rattle.model.proofs.TriggerLaws.{adds-and, adds-other}
 use Rattle.model.proofs.triggers.may_add.Statement.{statement}
 use Rattle.model.proofs.triggers.may_add.Tie as tie
 
 concept-at-requires : tie.Need-concept-at-requires
 concept-at-requires c κs = search needs
 
-enum-told : tie.Need-enum-told
-enum-told c = search needs
-
 enum-known-expr : tie.Need-enum-known-expr
 enum-known-expr c = search needs
 
-is-inverse-requires : tie.Need-is-inverse-requires
-is-inverse-requires c κs = search needs
+any-builds-requires : tie.Need-any-builds-requires
+any-builds-requires c κs =
+    let z = c .before .before .before .before .before in
+    (z .pre .0, (z .pre .1, fits-read _ (z .pre .0) (z .args .concept .0) (c .before .before .before .concept-at .ensures) _ (c .before .expr .given .1)))
+
+builds-at-requires : tie.Need-builds-at-requires
+builds-at-requires c κs = search needs
 
 returns : tie.Need-returns
-returns c = let z = c .before .before .before .before .before .before .before in adds-inverse _ (z .pre .0) (z .args .concept .0) (c .before .before .before .before .before .concept-at .ensures) _ _ (c .before .before .before .expr .given .1) (sym (c .before .is-inverse .ensures) ∙ c .if1 .taken)
+returns c = let z = c .before .before .before .before .before .before in c .any-builds .ensures ∙ adds-and _ (z .pre .0) (z .args .concept .0) (c .before .before .before .before .concept-at .ensures) _ (c .before .before .expr .given .1)
 
 returns-2 : tie.Need-returns-2
-returns-2 c = let z = c .before .before .before .before in adds-and _ (z .pre .0) (z .args .concept .0) (c .before .before .concept-at .ensures) _ (c .enum-told .given .1)
-
-returns-3 : tie.Need-returns-3
-returns-3 c = let z = c .before .before .before .before .before .before .before in adds-named _ (z .pre .0) (z .args .concept .0) (c .before .before .before .before .before .concept-at .ensures) _ _ (c .before .before .before .expr .given .1) (sym (c .before .is-inverse .ensures) ∙ c .if1 .left)
-
-returns-4 : tie.Need-returns-4
-returns-4 c = let z = c .before .before .before in adds-other _ (z .pre .0) (z .args .concept .0) (c .before .concept-at .ensures) (c .match .keys3)
+returns-2 c = let z = c .before .before .before .before in c .builds-at .ensures ∙ adds-other _ (z .pre .0) (z .args .concept .0) (c .before .before .concept-at .ensures) (c .before .match .keys2)
 
 pub may-add-spec : {M : Type 1} → statement M
-may-add-spec =
-    tie.close
-    (tie.spec
-    concept-at-requires
-    enum-told
-    enum-known-expr
-    is-inverse-requires
-    returns
-    returns-2
-    returns-3
-    returns-4)
+may-add-spec = tie.close (tie.spec concept-at-requires enum-known-expr any-builds-requires builds-at-requires returns returns-2)
