@@ -75,7 +75,7 @@ fn atom_answer(
 }
 
 // The answer of a concept that is no And.
-fn leaf_answer(
+pub fn leaf_answer(
     deck: &[u8],
     labels: &[u64],
     elements: u32,
