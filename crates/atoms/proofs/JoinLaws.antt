@@ -24,7 +24,7 @@ use Rattle.atoms.proofs.BitLaws.{bit-or, same-low}
 use Rattle.atoms.proofs.MemberLaws.{by-cases}
 use Rattle.atoms.proofs.LabelLaws.{length-insert, insert-all-append}
 use Rattle.atoms.proofs.ListWalks.{flat-same, flat-flat}
-use Rattle.atoms.proofs.LeafLaws.{has-append, atoms-leaves, begins}
+use Rattle.atoms.proofs.LeafLaws.{has-append, atoms-leaves, dropped-below, begins}
 
 -- ---- a number is its bits
 below-pow : (n : ℕ) → n < 2 ^ n
@@ -156,11 +156,12 @@ module _ (D : Deck) (f : ℕ → List ℕ) where
   abbrev takes : List ℕ → List ℕ → ℕ → List ℕ
   takes label marks k = insertAll label (flatMap f (andBelow D marks k))
 
-  pub takes-operands : (label l : List ℕ) (i : ℕ) → i ≤ 16384 → ((j : ℕ) → j < length l → getD l j 0 < i) → {none was : List ℕ} → none ≡ replicate 256 0 → was ≡ insertAll none (drop 0 l) → {marks : List ℕ} {k : ℕ} → Next D was i marks k
-      → insertAll label (flatMap (λ o. flatMap f (leaves D o)) l) ≡ takes label marks k
-  takes-operands label l i h b {none} {was} z m {marks} {k} N =
-      ap (insertAll label) (sym (flat-flat f (leaves D) l))
-      ∙ insert-same label (flatMap f (flatMap (leaves D) l)) (flatMap f (andBelow D marks k)) (flat-members f (flatMap (leaves D) l) (andBelow D marks k) (begins D 256 l i h b (m ∙ ap (λ (x : List ℕ). insertAll x l) z) N))
+  pub takes-operands : (label l : List ℕ) (first i : ℕ) → i ≤ 16384 → ((j : ℕ) → j < length l → getD l j 0 < i) → {none was : List ℕ} → none ≡ replicate 256 0 → was ≡ insertAll none (drop first l) → {marks : List ℕ} {k : ℕ} → Next D was i marks k
+      → insertAll label (flatMap (λ o. flatMap f (leaves D o)) (drop first l)) ≡ takes label marks k
+  takes-operands label l first i h b {none} {was} z m {marks} {k} N =
+      let rest = drop first l in
+      ap (insertAll label) (sym (flat-flat f (leaves D) rest))
+      ∙ insert-same label (flatMap f (flatMap (leaves D) rest)) (flatMap f (andBelow D marks k)) (flat-members f (flatMap (leaves D) rest) (andBelow D marks k) (begins D 256 rest i h (dropped-below D i first l b) (m ∙ ap (λ (x : List ℕ). insertAll x rest) z) N))
 
   pub takes-next : (label : List ℕ) {next was : List ℕ} {i : ℕ} → i < 16384 → next ≡ insertAll label (f i) → {marks : List ℕ} {k : ℕ} → Next D was i marks k → takes label was i ≡ takes next marks k
   unfolding flatMap

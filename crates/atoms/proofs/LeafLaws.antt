@@ -557,7 +557,7 @@ module _ (D : Deck) where
   asks-end p marks k h = rw (le-ltb k 16384 h)
 
   -- the operands from one on, which the walk begins with
-  dropped-below : (n first : ℕ) (l : List ℕ) → ((j : ℕ) → j < length l → getD l j 0 < n) → (j : ℕ) → j < length (drop first l) → getD (drop first l) j 0 < n
+  pub dropped-below : (n first : ℕ) (l : List ℕ) → ((j : ℕ) → j < length l → getD l j 0 < n) → (j : ℕ) → j < length (drop first l) → getD (drop first l) j 0 < n
   dropped-below n first l b j h = rw (getD-drop first l j 0) (b (first + j) (omega (arith, h, length-drop first l)))
 
   pub asks-operands : (q : Question) (label : List ℕ) (l : List ℕ) (first i : ℕ) → i ≤ 16384 → ((j : ℕ) → j < length l → getD l j 0 < i) → {none was : List ℕ} → none ≡ replicate 256 0 → was ≡ insertAll none (drop first l)

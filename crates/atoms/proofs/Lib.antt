@@ -10,5 +10,6 @@ pub mod BodyLaws
 pub mod OccurrenceLaws
 pub mod AntecedentLaws
 pub mod LeafLaws
+pub mod ShortLaws
 pub mod JoinLaws
 pub mod LargeLaws

@@ -10,6 +10,8 @@ use Rattle.eval.specs.Lists.{every}
 use Rattle.eval.specs.Numbered.{numbered}
 use Rattle.atoms.specs.declared.leaves.Question.{Question}
 use Rattle.atoms.specs.declared.leaves.Question.the-variants.{Universal, Atomless, Held}
+use Rattle.atoms.specs.declared.short.Walked.{Walked}
+use Rattle.atoms.specs.declared.short.Walked.the-variants.{Undecided, No, Yes}
 use Rattle.eval.specs.Lent.{labelWidth}
 use Rattle.atoms.specs.Label.{labelHas}
 use Rattle.atoms.specs.Rows.{rowsOf}
@@ -88,6 +90,12 @@ abbrev pub Askable : Deck → List ℕ → ℕ → Question → Type 0
 Askable D labels n Universal = Unit {0}
 Askable D labels n Atomless = Unit {0}
 Askable D labels n (Held e) = (n * labelWidth D ≤ length labels) × (e .0 < n)
+
+-- what a short walk came to is right of the answer b
+abbrev pub Decides : Walked → Bool → Type 0
+Decides Undecided b = Unit {0}
+Decides No b = b ≡ false
+Decides (Yes n) b = b ≡ true
 
 -- ---- a walk downward, by marks
 -- what the marked concepts below i lead to

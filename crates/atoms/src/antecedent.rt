@@ -11,7 +11,7 @@ ghost use Rattle.atoms.specs.Rows.{rowsOf};
 ghost use Rattle.atoms.specs.Antecedent.{hasAtom, isRule, holdsAtoms};
 use crate::floor::is_universal_antecedent;
 use crate::leaves::Question;
-use crate::leaves::every_leaf;
+use crate::short::answer_soon;
 use deck::numbers::ConceptId;
 use deck::numbers::Element;
 
@@ -23,7 +23,7 @@ fn holds_atoms(deck: &[u8], labels: &[u64], elements: u32, e: Element, concept: 
     requires { ⌜ concept .0 < conceptCount (deckOf (now deck)) ⌝ }
     ensures { λ r. ⌜ r ≡ holdsAtoms (deckOf (now (deck .entry))) (getD (rowsOf (labelWidth (deckOf (now (deck .entry)))) elements (now (labels .entry))) (e .0) []) (concept .0) ⌝ }
 {
-    every_leaf(deck, labels, elements, Question::Held(e), concept)
+    answer_soon(deck, labels, elements, Question::Held(e), concept)
 }
 
 // Does the concept have a required atom?
@@ -33,7 +33,7 @@ fn has_atom(deck: &[u8], concept: ConceptId) -> bool
     ensures { λ r. ⌜ r ≡ hasAtom (deckOf (now (deck .entry))) (concept .0) ⌝ }
 {
     let none: [u64; 1] = [0; 1];
-    !every_leaf(deck, &none, 0, Question::Atomless, concept)
+    !answer_soon(deck, &none, 0, Question::Atomless, concept)
 }
 
 // Is the concept a rule's antecedent?

@@ -2,7 +2,7 @@
 ghost use mathlib.Core.Path.{_≡_};
 ghost use Prim.Native.Nat.{_+_, _*_, _%_, _^_, _<_, _≤_};
 ghost use mathlib.Core.List.{map, flatMap};
-ghost use lib.ListN.{length, getD, replicate};
+ghost use lib.ListN.{length, getD, drop, replicate};
 ghost use Rattle.deck.specs.Content.{IsAccepted, deckOf};
 ghost use Rattle.deck.specs.Below.{anyBelow};
 ghost use Rattle.deck.specs.Deck.{Axiom, conceptCount, conceptAt, axiomCount, axiomAt};
@@ -15,6 +15,7 @@ ghost use Rattle.atoms.specs.Floor.{universal, atomRows, memberRows, flo
 use crate::labels;
 use crate::leaves::Question;
 use crate::leaves::every_leaf;
+use crate::leaves::is_and;
 use crate::marks::mark_operands;
 use crate::marks::next_leaf;
 use crate::subsumers::insert_satisfiable;
@@ -52,16 +53,23 @@ fn join_leaf(deck: &[u8], concept: ConceptId, label: &mut [u64])
     }
 }
 
-// The same of all that the operands lead to, all below `owner`: by marks, none at first, so what is shared is joined once.
-fn join_marked(deck: &[u8], owner: ConceptId, list: Span, label: &mut [u64], marks: &mut [u64])
+// The same of all that the operands from the first on lead to, all below `owner`: by marks, none at first, so what is shared is joined once.
+fn join_marked(
+    deck: &[u8],
+    owner: ConceptId,
+    list: Span,
+    first: u32,
+    label: &mut [u64],
+    marks: &mut [u64],
+)
     requires { ⌜ IsAccepted (now deck) ⌝ }
     requires { ⌜ owner .0 < conceptCount (deckOf (now deck)) ⌝ }
     requires { ⌜ ListFits (now deck) (owner .0) list ⌝ }
     requires { ⌜ length (now label) ≡ labelWidth (deckOf (now deck)) ⌝ }
     requires { ⌜ now marks ≡ replicate 256 0 ⌝ }
-    ensures { λ _. ⌜ now (label .exit) ≡ insertAll (now (label .entry)) (flatMap (atomRows (deckOf (now (deck .entry)))) (listOf (now (deck .entry)) list)) ⌝ }
+    ensures { λ _. ⌜ now (label .exit) ≡ insertAll (now (label .entry)) (flatMap (atomRows (deckOf (now (deck .entry)))) (drop first (listOf (now (deck .entry)) list))) ⌝ }
 {
-    mark_operands(deck, owner.0, list, 0, marks);
+    mark_operands(deck, owner.0, list, first, marks);
     let mut k = next_leaf(deck, marks, owner.0);
     while k < 16384 {
         join_leaf(deck, ConceptId(k), label);
@@ -70,6 +78,18 @@ fn join_marked(deck: &[u8], owner: ConceptId, list: Span, label: &mut [u64], mar
 }
 
 // The same, with marks of its own.
+fn join_rest(deck: &[u8], owner: ConceptId, list: Span, first: u32, label: &mut [u64])
+    requires { ⌜ IsAccepted (now deck) ⌝ }
+    requires { ⌜ owner .0 < conceptCount (deckOf (now deck)) ⌝ }
+    requires { ⌜ ListFits (now deck) (owner .0) list ⌝ }
+    requires { ⌜ length (now label) ≡ labelWidth (deckOf (now deck)) ⌝ }
+    ensures { λ _. ⌜ now (label .exit) ≡ insertAll (now (label .entry)) (flatMap (atomRows (deckOf (now (deck .entry)))) (drop first (listOf (now (deck .entry)) list))) ⌝ }
+{
+    let mut marks: [u64; 256] = [0; 256];
+    join_marked(deck, owner, list, first, label, &mut marks);
+}
+
+// The same of the whole list: marks only from the first And on.
 fn join_operands(deck: &[u8], owner: ConceptId, list: Span, label: &mut [u64])
     requires { ⌜ IsAccepted (now deck) ⌝ }
     requires { ⌜ owner .0 < conceptCount (deckOf (now deck)) ⌝ }
@@ -77,8 +97,16 @@ fn join_operands(deck: &[u8], owner: ConceptId, list: Span, label: &mut [u64])
     requires { ⌜ length (now label) ≡ labelWidth (deckOf (now deck)) ⌝ }
     ensures { λ _. ⌜ now (label .exit) ≡ insertAll (now (label .entry)) (flatMap (atomRows (deckOf (now (deck .entry)))) (listOf (now (deck .entry)) list)) ⌝ }
 {
-    let mut marks: [u64; 256] = [0; 256];
-    join_marked(deck, owner, list, label, &mut marks);
+    let count = list.count;
+    let mut i = 0;
+    while i < count {
+        let o = ConceptId(item(deck, list, i));
+        if is_and(deck, o) {
+            return join_rest(deck, owner, list, i, label);
+        }
+        join_leaf(deck, o, label);
+        i += 1;
+    }
 }
 
 // The label takes the rows of the concept's satisfiable required atoms in.

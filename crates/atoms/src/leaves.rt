@@ -5,10 +5,10 @@ ghost use mathlib.Core.List.{[], _∷_, map};
 ghost use Prim.Native.Nat.{_<_};
 ghost use lib.ListN.{drop, replicate};
 ghost use Rattle.deck.specs.Content.{IsAccepted, deckOf};
-ghost use Rattle.deck.specs.Deck.{classCount, conceptCount};
+ghost use Rattle.deck.specs.Deck.{classCount, conceptCount, conceptAt};
 ghost use Rattle.deck.specs.Reads.{listOf, ListFits};
 ghost use Rattle.eval.specs.Lists.{every};
-ghost use Rattle.atoms.specs.Leaves.{holdsAtom, allows, answer, everyLeaf, leaves, rowAsked, Askable};
+ghost use Rattle.atoms.specs.Leaves.{IsLeaf, holdsAtom, allows, answer, everyLeaf, leaves, rowAsked, Askable};
 use crate::marks::mark_operands;
 use crate::marks::next_leaf;
 use deck::concepts::ConceptExpr;
@@ -41,10 +41,11 @@ impl Question {
 }
 
 // Is it an And?
-fn is_and(deck: &[u8], concept: ConceptId) -> bool
+pub fn is_and(deck: &[u8], concept: ConceptId) -> bool
     requires { ⌜ IsAccepted (now deck) ⌝ }
     requires { ⌜ concept .0 < conceptCount (deckOf (now deck)) ⌝ }
-    ensures { λ r. ⌜ (r ≡ false → leaves (deckOf (now (deck .entry))) (concept .0) ≡ concept .0 ∷ []) ⌝ }
+    ensures leaf { λ r. ⌜ (r ≡ false → IsLeaf (conceptAt (deckOf (now (deck .entry))) (concept .0))) ⌝ }
+    ensures alone { λ r. ⌜ (r ≡ false → leaves (deckOf (now (deck .entry))) (concept .0) ≡ concept .0 ∷ []) ⌝ }
 {
     let expr = concept_at(deck, concept);
     match expr {
@@ -74,7 +75,7 @@ fn atom_answer(
 }
 
 // The answer of a concept that is no And.
-fn leaf_answer(
+pub fn leaf_answer(
     deck: &[u8],
     labels: &[u64],
     elements: u32,

@@ -8,6 +8,7 @@ pub mod leaves;
 pub mod marks;
 pub mod occurrences;
 pub mod reasons;
+pub mod short;
 pub mod subsumers;
 pub mod target_label;
 pub mod visits;

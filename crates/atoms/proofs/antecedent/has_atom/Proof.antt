@@ -13,14 +13,14 @@ not-not : (b : Bool) → not (not b) ≡ b
 not-not true = refl
 not-not false = refl
 
-slice-aggregate-every-leaf : tie.Need-slice-aggregate-every-leaf
-slice-aggregate-every-leaf c = search needs
+slice-aggregate-answer-soon : tie.Need-slice-aggregate-answer-soon
+slice-aggregate-answer-soon c = search needs
 
-every-leaf-requires : tie.Need-every-leaf-requires
-every-leaf-requires c κs = search needs
+answer-soon-requires : tie.Need-answer-soon-requires
+answer-soon-requires c κs = search needs
 
 returns : tie.Need-returns
-returns c = let z = c .before .before .before in ap not (c .every-leaf .ensures ∙ sym (atom-leaves _ (sound _ (z .pre .0)) (z .args .concept .0))) ∙ not-not (hasAtom (deckOf (now (z .args .deck))) (z .args .concept .0))
+returns c = let z = c .before .before .before in ap not (c .answer-soon .ensures ∙ sym (atom-leaves _ (sound _ (z .pre .0)) (z .args .concept .0))) ∙ not-not (hasAtom (deckOf (now (z .args .deck))) (z .args .concept .0))
 
 pub has-atom-spec : {M : Type 1} → statement M
-has-atom-spec = tie.close (tie.spec slice-aggregate-every-leaf every-leaf-requires returns)
+has-atom-spec = tie.close (tie.spec slice-aggregate-answer-soon answer-soon-requires returns)

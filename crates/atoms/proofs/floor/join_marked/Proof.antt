@@ -5,7 +5,7 @@ use mathlib.Core.List.{flatMap}
 use native.Mathlib.Omega.{arith}
 use denote.Ref.{now}
 use lib.Dec.{ltb}
-use lib.ListN.{length, length-replicate}
+use lib.ListN.{length, drop, length-replicate}
 use Rattle.deck.specs.Deck.{conceptAt}
 use Rattle.deck.specs.Content.{deckOf}
 use Rattle.deck.specs.Reads.{listOf}
@@ -19,12 +19,12 @@ use Rattle.atoms.proofs.floor.join_marked.Statement.{statement}
 use Rattle.atoms.proofs.floor.join_marked.Tie as tie
 
 abbrev Inv-loop : tie.InvT-loop
-Inv-loop deck label₀ marks₀ k₀ label marks k =
+Inv-loop deck first label₀ marks₀ k₀ label marks k =
     (length label ≡ length label₀) × (length marks ≡ length marks₀) × (k < 16384 → (k ≤ k₀) × (k₀ < 16384) × IsLeaf (conceptAt (deckOf deck) k))
     × (insertAll label₀ (flatMap (atomRows (deckOf deck)) (andBelow (deckOf deck) marks₀ k₀)) ≡ insertAll label (flatMap (atomRows (deckOf deck)) (andBelow (deckOf deck) marks k)))
 
 abbrev μ-loop : tie.MeasureT-loop
-μ-loop deck label₀ marks₀ k₀ label marks k = cond (ltb k 16384) (suc k) 0
+μ-loop deck first label₀ marks₀ k₀ label marks k = cond (ltb k 16384) (suc k) 0
 
 mark-operands-requires : tie.Need-mark-operands-requires Inv-loop μ-loop
 mark-operands-requires c κs = let z = c .before .before .before .before in (z .pre .0, (z .pre .1 .1 .0, omega (arith, limited _ (z .pre .0) .concepts, z .pre .1 .0, ap length (z .pre .1 .1 .1 .1), length-replicate {A = ℕ} 256 0)))
@@ -71,8 +71,8 @@ returns c =
     let w = c .before .loop in
     let l = listOf (now (z .args .deck)) (z .args .list) in
     sym
-    (ap (insertAll (now (z .args .label))) (rows-leaves _ (sound _ (z .pre .0)) l)
-    ∙ takes-operands _ _ (now (z .args .label)) l (z .args .owner .0) (omega (arith, limited _ (z .pre .0) .concepts, z .pre .1 .0)) (z .pre .1 .1 .0 .below) (z .pre .1 .1 .1 .1) (c .before .before .before .before .before .before .before .before .mark-operands .ensures) (c .before .before .before .before .next-leaf .ensures) ∙ w .inv .3 ∙ takes-end _ _ (w .label) (w .marks) (w .k) (c .loop-test .left))
+    (ap (insertAll (now (z .args .label))) (rows-leaves _ (sound _ (z .pre .0)) (drop (z .args .first) l))
+    ∙ takes-operands _ _ (now (z .args .label)) l (z .args .first) (z .args .owner .0) (omega (arith, limited _ (z .pre .0) .concepts, z .pre .1 .0)) (z .pre .1 .1 .0 .below) (z .pre .1 .1 .1 .1) (c .before .before .before .before .before .before .before .before .mark-operands .ensures) (c .before .before .before .before .next-leaf .ensures) ∙ w .inv .3 ∙ takes-end _ _ (w .label) (w .marks) (w .k) (c .loop-test .left))
 
 pub join-marked-spec : {M : Type 1} → statement M
 join-marked-spec =

@@ -52,7 +52,7 @@ returns-2 : tie.Need-returns-2 Inv-loop μ-loop
 returns-2 c =
     let z = c .before .before .before .before .before .before .before .before .before in
     let w = c .before .before .before .before .before .before .loop in
-    let a = every-leaf-one _ _ _ (c .before .before .before .before .item .result) (c .before .before .before .is-and .ensures (c .before .before .if1 .left)) in
+    let a = every-leaf-one _ _ _ (c .before .before .before .before .item .result) (c .before .before .before .is-and .ensures .1 (c .before .before .if1 .left)) in
     every-stop 0 (listOf (now (z .args .deck)) (z .args .list)) (w .i) _ (omega (arith, list-length (now (z .args .deck)) (z .args .list .start) (z .args .list .count))) (rw (c .before .before .before .before .item .ensures) at (sym a ∙ sym (c .before .leaf-answer .ensures) ∙ not-true _ (c .if2 .taken))) ∙ sym (w .inv .1)
 
 add-i : tie.Need-add-i Inv-loop μ-loop
@@ -65,7 +65,7 @@ loop-again : tie.Need-loop-again Inv-loop μ-loop
 loop-again c =
     let z = c .before .before .before .before .before .before .before .before .before in
     let w = c .before .before .before .before .before .before .loop in
-    let a = every-leaf-one _ _ _ (c .before .before .before .before .item .result) (c .before .before .before .is-and .ensures (c .before .before .if1 .left)) in
+    let a = every-leaf-one _ _ _ (c .before .before .before .before .item .result) (c .before .before .before .is-and .ensures .1 (c .before .before .if1 .left)) in
     (omega arith, w .inv .1 ∙ every-step 0 (listOf (now (z .args .deck)) (z .args .list)) (w .i) _ (omega (arith, list-length (now (z .args .deck)) (z .args .list .start) (z .args .list .count))) (rw (c .before .before .before .before .item .ensures) at (sym a ∙ sym (c .before .leaf-answer .ensures) ∙ not-false _ (c .if2 .left))))
 
 returns-3 : tie.Need-returns-3 Inv-loop μ-loop
