@@ -11,7 +11,7 @@ use mathlib.Core.Logic.{⊎-elim}
 use native.Mathlib.Omega.{arith}
 use lib.ListN.{length, length-append}
 use lib.Dec.{eqb, ltb}
-use borrow.Author.Tests.{lt-ltb}
+use borrow.Author.Tests.{lt-ltb, le-ltb}
 use Rattle.deck.specs.Deck.{Deck, Role, Concept, conceptAt}
 use Rattle.deck.proofs.CaseLaws.{lt-or-le}
 use Rattle.eval.specs.declared.edges.Edge.{Edge}
@@ -23,7 +23,7 @@ use Rattle.atoms.specs.declared.reasons.Reason.{Reason}
 use Rattle.atoms.specs.Walk.{walk}
 use Rattle.build.specs.Intern.{indexOf, interned}
 use Rattle.atoms.specs.Floor.{requiredAtoms}
-use Rattle.atoms.specs.Reasons.{boundTripped, counted, Log, note}
+use Rattle.atoms.specs.Reasons.{boundTripped, counted, noted, Log, note}
 use Rattle.build.specs.Push.{State, edge, added, pushEdge}
 use Rattle.build.specs.Model.{Model, tripState, reach}
 use Rattle.build.specs.Quiet.{modelSize, LiveModel}
@@ -65,9 +65,9 @@ module _ {S : Type 0} {size : S → ℕ} {Live : S → Type 0} where
       ⊎-elim (λ (p : x ≡ y). ap (λ (z : A). f z s) p ∙ d)
       (λ (j : Member x ys). each-still f ys g s (subst (λ (k : S). size (walk f ys k) ≡ size s) d q) (subst (λ (k : S). Live (walk f ys k)) d v) x j) (cases-cons i)
 
--- ---- reasons: below its largest value the total counts each
+-- ---- reasons: below its largest value the total counts each; there no more is written, so nothing else is asked
 abbrev Counting : Log → Type 0
-Counting g = g .total < 4294967295
+Counting g = Unit {0}
 
 abbrev total : Log → ℕ
 total g = g .total
@@ -76,24 +76,24 @@ counted-up : (n : ℕ) → n ≤ counted n
 unfolding counted
 counted-up n = by-cond (λ (k : ℕ). n ≤ k) (ltb n 4294967295) (n + 1) n (omega arith) (omega arith)
 
-counted-more : (n : ℕ) → counted n < 4294967295 → counted n ≡ n → ⊥
-unfolding counted
-counted-more n v q =
-    ⊎-elim (λ (h : n < 4294967295). let e : counted n ≡ n + 1 = rw (lt-ltb n 4294967295 h) in omega (arith, e, q))
-    (λ (h : 4294967295 ≤ n). omega (arith, h, v, q)) (lt-or-le n 4294967295)
+note-still : (x : Reason) (g : Log) → counted (g .total) ≡ g .total → note x g ≡ g
+unfolding counted noted
+note-still x g q =
+    ⊎-elim (λ (h : g .total < 4294967295). let e : counted (g .total) ≡ g .total + 1 = rw (lt-ltb (g .total) 4294967295 h) in absurd (omega (arith, e, q)))
+    (λ (h : 4294967295 ≤ g .total). let p : note x g ≡ record { words = g .words; total = g .total } = rw (le-ltb (g .total) 4294967295 h) in p) (lt-or-le (g .total) 4294967295)
 
 note-grows : (x : Reason) (g : Log) → Grows total Counting g (note x g)
-note-grows x g = record { up = counted-up (g .total); still = λ q v. absurd (counted-more (g .total) v q) }
+note-grows x g = record { up = counted-up (g .total); still = λ q v. note-still x g q }
 
 -- ---- edges and reasons
 abbrev stateSize : State → ℕ
 stateSize s = length (s .edges) + s .reasons
 
 abbrev LiveState : State → Type 0
-LiveState s = (s .reasons < 4294967295) × (s .tripped ≡ false)
+LiveState s = s .tripped ≡ false
 
 trip-grows : (x : Reason) (s : State) → Grows stateSize LiveState s (tripState x s)
-trip-grows x s = record { up = omega (arith, counted-up (s .reasons)); still = λ q v. let w : true ≡ false = v .1 in clash (cc) }
+trip-grows x s = record { up = omega (arith, counted-up (s .reasons)); still = λ q v. let w : true ≡ false = v in clash (cc) }
 
 added-grows : (limit : ℕ) (e : Edge) (s : State) → Grows stateSize LiveState s (added limit e s)
 added-grows limit e s =
@@ -149,7 +149,7 @@ reasons-grow : (m : Model) (s : Body) → Grows total Counting (logOf m) (bodyLo
 reasons-grow m s G = record {
   up = omega (arith, G .up);
   still = λ q v.
-      let e : bodyLog s ≡ logOf m = G .still (omega (arith, q)) (v .0) in
+      let e : bodyLog s ≡ logOf m = G .still (omega (arith, q)) tt in
       let w : s .log ≡ m .state .log = ap (λ (g : Log). g .words) e in
       let n : s .atoms .reasons ≡ m .state .reasons = ap total e in
       let p : withReasons m s ≡ record { labels = m .labels; state = record { edges = m .state .edges; log = m .state .log; reasons = m .state .reasons; tripped = m .state .tripped } } = rw (w, n) in

@@ -12,10 +12,10 @@ use mathlib.Core.Path.{_≡_, refl, sym, ap, subst, _∙_}
 use mathlib.Core.List.{List}
 use mathlib.Core.Logic.{⊎-elim, _⊎_, inl, inr}
 use native.Mathlib.Omega.{arith}
-use lib.Dec.{eqb, ltb}
+use lib.Dec.{eqb}
 use lib.ListN.{length, getD, set, replicate}
 use lib.Seq.{getD-set-same, getD-set-other}
-use borrow.Author.Tests.{eqb-true, eqb-false, ltb-true}
+use borrow.Author.Tests.{eqb-true, eqb-false}
 use Rattle.deck.specs.Deck.{Deck}
 use Rattle.deck.specs.Content.{deckOf}
 use Rattle.deck.proofs.CaseLaws.{lt-or-le}
@@ -38,14 +38,12 @@ pub record Same (t u : Tally) : Type 0 where
   pub elements : t .elements ≡ u .elements
   pub edges : t .edges ≡ u .edges
   pub reasons : t .reasons ≡ u .reasons
-  pub low : u .reasons < 4294967295
 
 pub same-of : (t u : Tally) → unchanged t u ≡ true → Same t u
 same-of t u h =
-    let x = both-true (eqb (t .elements) (u .elements)) (eqb (t .edges) (u .edges) && (eqb (t .reasons) (u .reasons) && ltb (u .reasons) 4294967295)) h in
-    let y = both-true (eqb (t .edges) (u .edges)) (eqb (t .reasons) (u .reasons) && ltb (u .reasons) 4294967295) (x .1) in
-    let z = both-true (eqb (t .reasons) (u .reasons)) (ltb (u .reasons) 4294967295) (y .1) in
-    record { elements = eqb-true (t .elements) (u .elements) (x .0); edges = eqb-true (t .edges) (u .edges) (y .0); reasons = eqb-true (t .reasons) (u .reasons) (z .0); low = ltb-true (u .reasons) 4294967295 (z .1) }
+    let x = both-true (eqb (t .elements) (u .elements)) (eqb (t .edges) (u .edges) && eqb (t .reasons) (u .reasons)) h in
+    let y = both-true (eqb (t .edges) (u .edges)) (eqb (t .reasons) (u .reasons)) (x .1) in
+    record { elements = eqb-true (t .elements) (u .elements) (x .0); edges = eqb-true (t .edges) (u .edges) (y .0); reasons = eqb-true (t .reasons) (u .reasons) (y .1) }
 
 pub begun-size : (D : Deck) (b : Buffers) (t : Tally) → t .edges ≤ length (b .edges) → modelSize (begun D b t) ≡ t .elements + (t .edges + t .reasons)
 begun-size D b t h = omega (arith, length-rows (labelWidth D) (t .elements) (b .labels), edges-length (b .edges) (t .edges) h)
@@ -77,7 +75,7 @@ module _ {D : Deck} {floor : List ℕ} {B : Bounds} where
   -- a walk that is known
   pub known-idle : {table : List ℕ} (b : Buffers) {t : Tally} {o e : ℕ} → Quiet D floor B table (begun D b t) → t .edges ≤ length (b .edges) → Known table t o e → begun D b t ≡ work D floor B o e (begun D b t)
   known-idle {table} b {t} {o} {e} Q h K =
-      sym (Q .idle (K .place) o e (K .worded .concept) (K .worded .element) (K .worded .low, refl) (K .is ∙ ap (λ (n : ℕ). wordOf n o e) (sym (begun-size D b t h))))
+      sym (Q .idle (K .place) o e (K .worded .concept) (K .worded .element) refl (K .is ∙ ap (λ (n : ℕ). wordOf n o e) (sym (begun-size D b t h))))
 
   -- the step to a Some's target
   pub quiet-reached : {table : List ℕ} {b : Buffers} {t : Tally} → Quiet D floor B table (begun D b t) → {b₁ : Buffers} {l₁ : List ℕ} {z : Step} (r k e : ℕ)
@@ -89,7 +87,7 @@ module _ (table : List ℕ) (t u : Tally) (o e : ℕ) where
   pub kept-same : Kept table table t u o e
   kept-same = record { each = λ i. inl refl }
 
-  pub kept-put : (at w : ℕ) → at < length table → unchanged t u ≡ true → Worded u o e → w ≡ wordOf (sizeOf u) o e → Kept table (set table at w) t u o e
+  pub kept-put : (at w : ℕ) → at < length table → unchanged t u ≡ true → Worded o e → w ≡ wordOf (sizeOf u) o e → Kept table (set table at w) t u o e
   kept-put at w h s W q = record { each = λ i. go i (eqb i at) refl }
     where
       go : (i : ℕ) (x : Bool) → eqb i at ≡ x → (getD (set table at w) i 0 ≡ getD table i 0) ⊎ Marked (set table at w) i t u o e
@@ -115,7 +113,7 @@ module _ {s : List ℕ} {B : Bounds} {b : Buffers} {t : Tally} {floor label : Li
   model-stands S =
       let was : modelSize m ≡ sizeOf t = begun-size D b t (omega (arith, P .space .bound, P .space .room)) in
       let q : modelSize m′ ≡ modelSize (work D floor B o e m) = ap modelSize (built-start X w) in
-      built-start X w ∙ work-grows D floor B o e m .still (omega (arith, q, now-size, was, S .elements, S .edges, S .reasons)) (subst LiveModel (built-start X w) (S .low, refl))
+      built-start X w ∙ work-grows D floor B o e m .still (omega (arith, q, now-size, was, S .elements, S .edges, S .reasons)) (subst LiveModel (built-start X w) refl)
 
   -- so the walk would change nothing again
   again : Same t (r .tally) → work D floor B o e m′ ≡ m′

@@ -8,22 +8,19 @@ use crate::tally::unchanged;
 use deck::numbers::ConceptId;
 use deck::numbers::Element;
 
-// Is there a word for concept o at element e? There is none once the total of reasons has stopped.
-fn has_word(t: Tally, o: ConceptId, e: Element) -> bool
-    ensures { λ r. ⌜ (r ≡ true → Worded t (o .0) (e .0)) ⌝ }
+// Is there a word for concept o at element e?
+fn has_word(o: ConceptId, e: Element) -> bool
+    ensures { λ r. ⌜ (r ≡ true → Worded (o .0) (e .0)) ⌝ }
 {
     if 16384 <= o.0 {
         return false;
     }
-    if 65536 <= e.0 {
-        return false;
-    }
-    t.reasons < 4294967295
+    e.0 < 65536
 }
 
 // The word: the size of the structure and one, then the element in 16 bits, then the concept in 14.
 fn word(t: Tally, o: ConceptId, e: Element) -> u64
-    requires { ⌜ Worded t (o .0) (e .0) ⌝ }
+    requires { ⌜ Worded (o .0) (e .0) ⌝ }
     ensures { λ r. ⌜ r ≡ wordOf (sizeOf t) (o .0) (e .0) ⌝ }
 {
     let size = t.elements as u64 + (t.edges as u64 + t.reasons as u64);
@@ -31,8 +28,8 @@ fn word(t: Tally, o: ConceptId, e: Element) -> u64
 }
 
 // Where it stands: the concepts at one element have places of their own, and elements lie far apart.
-fn place(t: Tally, o: ConceptId, e: Element) -> usize
-    requires { ⌜ Worded t (o .0) (e .0) ⌝ }
+fn place(o: ConceptId, e: Element) -> usize
+    requires { ⌜ Worded (o .0) (e .0) ⌝ }
     ensures { λ r. ⌜ r < 16384 ⌝ }
 {
     ((e.0 * 10125 + o.0) % 16384) as usize
@@ -45,10 +42,10 @@ pub fn is_quiet(memo: &[u64], t: Tally, o: ConceptId, e: Element) -> bool
     if memo.len() < 16384 {
         return false;
     }
-    if !has_word(t, o, e) {
+    if !has_word(o, e) {
         return false;
     }
-    let at = place(t, o, e);
+    let at = place(o, e);
     let w = word(t, o, e);
     memo[at] == w
 }
@@ -63,10 +60,10 @@ pub fn keep_quiet(memo: &mut [u64], t: Tally, u: Tally, o: ConceptId, e: Element
     if !unchanged(t, u) {
         return;
     }
-    if !has_word(u, o, e) {
+    if !has_word(o, e) {
         return;
     }
-    let at = place(u, o, e);
+    let at = place(o, e);
     let w = word(u, o, e);
     memo[at] = w;
 }

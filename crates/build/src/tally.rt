@@ -63,7 +63,7 @@ impl Step {
     }
 }
 
-// Did the step from t to u change nothing? Every count only grows, but the total of reasons stops.
+// Did the step from t to u change nothing? Every count only grows, and where the total of reasons has stopped none is written.
 pub fn unchanged(t: Tally, u: Tally) -> bool
     ensures { λ r. ⌜ r ≡ unchanged t u ⌝ }
 {
@@ -73,8 +73,5 @@ pub fn unchanged(t: Tally, u: Tally) -> bool
     if t.edges != u.edges {
         return false;
     }
-    if t.reasons != u.reasons {
-        return false;
-    }
-    u.reasons < 4294967295
+    t.reasons == u.reasons
 }

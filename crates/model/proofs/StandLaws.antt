@@ -88,7 +88,7 @@ module _ {s : List ℕ} {B : Bounds} {b : Buffers} {t : Tally} {floor label : Li
       omega (arith, q, now, was, S .elements, S .edges, S .reasons)
 
   live : Same t (r .tally) → LiveModel m′
-  live S = subst LiveModel (built-start X w) (S .low, refl)
+  live S = subst LiveModel (built-start X w) refl
 
   model-stands : Same t (r .tally) → begun D b′ (r .tally) ≡ m
   model-stands S = built-start X w ∙ from-grows D floor B e l (a .0) m .still (size-stands S) (live S)

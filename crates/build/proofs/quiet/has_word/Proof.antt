@@ -9,10 +9,7 @@ returns : tie.Need-returns
 returns c = λ w. clash (cc)
 
 returns-2 : tie.Need-returns-2
-returns-2 c = λ w. clash (cc)
-
-returns-3 : tie.Need-returns-3
-returns-3 c = search needs
+returns-2 c = search needs
 
 pub has-word-spec : {M : Type 1} → statement M
-has-word-spec = tie.close (tie.spec returns returns-2 returns-3)
+has-word-spec = tie.close (tie.spec returns returns-2)

@@ -9,10 +9,7 @@ returns-2 : tie.Need-returns-2
 returns-2 c = let a = c .before .before .before .before .before .before .args in simp (eq-eqb (a .t .elements) (a .u .elements) (c .before .before .before .if1 .left), ne-eqb (a .t .edges) (a .u .edges) (c .if2 .taken))
 
 returns-3 : tie.Need-returns-3
-returns-3 c = let a = c .before .before .before .before .before .before .before .before .before .args in simp (eq-eqb (a .t .elements) (a .u .elements) (c .before .before .before .before .before .before .if1 .left), eq-eqb (a .t .edges) (a .u .edges) (c .before .before .before .if2 .left), ne-eqb (a .t .reasons) (a .u .reasons) (c .if3 .taken))
-
-returns-4 : tie.Need-returns-4
-returns-4 c = let a = c .before .before .before .before .before .before .before .before .before .before .args in simp (eq-eqb (a .t .elements) (a .u .elements) (c .before .before .before .before .before .before .before .if1 .left), eq-eqb (a .t .edges) (a .u .edges) (c .before .before .before .before .if2 .left), eq-eqb (a .t .reasons) (a .u .reasons) (c .before .if3 .left))
+returns-3 c = let a = c .before .before .before .before .before .before .before .before .args in simp (eq-eqb (a .t .elements) (a .u .elements) (c .before .before .before .before .before .if1 .left), eq-eqb (a .t .edges) (a .u .edges) (c .before .before .if2 .left))
 
 pub unchanged-spec : {M : Type 1} → statement M
-unchanged-spec = tie.close (tie.spec returns returns-2 returns-3 returns-4)
+unchanged-spec = tie.close (tie.spec returns returns-2 returns-3)
