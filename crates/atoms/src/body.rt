@@ -21,7 +21,7 @@ use deck::roles::range_of;
 use deck::rows::{Span, item};
 
 // What the atoms so far gave: whether there was one, the first of them, whether one was not closed, and the total of reasons.
-#[derive(Drop)]
+#[derive(Clone, Copy)]
 pub struct Atoms {
     pub found: bool,
     pub first: ClassId,

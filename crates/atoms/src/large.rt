@@ -23,7 +23,7 @@ use deck::concepts::{ConceptExpr, concept_at};
 use deck::numbers::{ClassId, ConceptId, RoleId};
 
 // What the atoms so far gave: whether there was one, whether one was not closed, and whether one gives a RunDelta.
-#[derive(Drop)]
+#[derive(Clone, Copy)]
 pub struct Seen {
     pub found: bool,
     pub unclosed: bool,

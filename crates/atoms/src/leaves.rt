@@ -13,7 +13,7 @@ use deck::rows::{Span, item};
 use eval::labels::has_class;
 
 // Is it Top? Is it no atom? Is it no atom that the element lacks?
-#[derive(Drop)]
+#[derive(Clone, Copy)]
 pub enum Question {
     Universal,
     Atomless,

@@ -1,4 +1,6 @@
 // Required atoms: what they ask of a label and give it, through Ands, without walking what is shared twice; labels, targets and reasons: document 01, sections 2 and 3.
+#![tactic(auto)]
+
 pub mod antecedent;
 pub mod body;
 pub mod floor;

@@ -5,7 +5,7 @@ ghost use Rattle.atoms.specs.Reasons.{label_not_closed, run_delta, bound_tripped
 use deck::numbers::{ClassId, RoleId};
 
 // 1 LabelNotClosed, 2 RunDelta, 3 BoundTripped or 4 AxiomsDroppedAtConversion, and two words.
-#[derive(Drop)]
+#[derive(Clone, Copy)]
 pub struct Reason {
     pub kind: u32,
     pub first: u32,

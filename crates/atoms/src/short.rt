@@ -12,7 +12,7 @@ use deck::numbers::ConceptId;
 use deck::rows::{Span, item};
 
 // What a walk of at most so many concepts came to. Yes: with so many visits left.
-#[derive(Drop)]
+#[derive(Clone, Copy)]
 pub enum Walked {
     Undecided,
     No,

@@ -14,7 +14,7 @@ use deck::roles::range_of;
 use deck::rows::{Span, item, row_has};
 
 // By a class's row; by the class's own row with reason RunDelta; or not, with reason LabelNotClosed.
-#[derive(Drop)]
+#[derive(Clone, Copy)]
 pub enum Target {
     Row(ClassId),
     Delta(ClassId),

@@ -1,4 +1,6 @@
 // What tests/bench/deck.c times: the check of a deck, and a bare pass over its words.
+#![tactic(auto)]
+
 ghost use Rattle.std.specs.Prelude.{◌≡◌, ◌/◌, length};
 ghost use Rattle.deck.specs.Records.{deck_answer};
 ghost use Rattle.bench_deck.specs.Bench.{answer_number, sum_of};

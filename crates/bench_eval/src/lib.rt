@@ -1,4 +1,6 @@
 // What tests/bench/eval.c times: judging one concept over a lent structure.
+#![tactic(auto)]
+
 ghost use Rattle.std.specs.Prelude.{◌≡◌};
 ghost use Rattle.eval.specs.Entry.{shape_of, concept_answer};
 ghost use Rattle.bench_eval.specs.Bench.{answer_word};

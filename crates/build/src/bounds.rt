@@ -1,5 +1,5 @@
 // The bounds of a run.
-#[derive(Drop)]
+#[derive(Clone, Copy)]
 pub struct Bounds {
     pub max_elements: u32,
     pub max_edges: u32,

@@ -14,7 +14,7 @@ use atoms::floor::apply_floor;
 use deck::numbers::Element;
 
 // The element of a label, and how many there are now.
-#[derive(Drop)]
+#[derive(Clone, Copy)]
 pub struct Interned {
     pub element: Element,
     pub elements: u32,

@@ -1,4 +1,6 @@
 // What building a structure is made of: elements by their labels, edges, seeding, and building out a consequent: document 01, section 3.
+#![tactic(auto)]
+
 pub mod bounds;
 pub mod exists;
 pub mod idle;

@@ -18,7 +18,7 @@ use deck::numbers::{Element, RoleId};
 use eval::edges::Edge;
 
 // The step that led to an element.
-#[derive(Drop)]
+#[derive(Clone, Copy)]
 pub struct Arrival {
     pub step: Step,
     pub element: Element,

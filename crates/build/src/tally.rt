@@ -4,7 +4,7 @@ ghost use Rattle.build.specs.Model.{among};
 ghost use Rattle.build.specs.Push.{quiet};
 ghost use Rattle.build.specs.Quiet.{unchanged};
 
-#[derive(Drop)]
+#[derive(Clone, Copy)]
 pub struct Tally {
     pub elements: u32,
     pub edges: u32,
@@ -12,7 +12,7 @@ pub struct Tally {
 }
 
 // The tally after a step, and whether the step tripped a bound.
-#[derive(Drop)]
+#[derive(Clone, Copy)]
 pub struct Step {
     pub tally: Tally,
     pub tripped: bool,

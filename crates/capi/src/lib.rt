@@ -2,6 +2,8 @@
 // length. include/style_deck.h says to a caller what each argument is. Each function returns 0 or the number of a
 // refusal, and what else it answers goes into four words that the caller lends; `style_deck_fault_word` returns a word,
 // `style_deck_report` a length.
+#![tactic(auto)]
+
 mod words;
 
 ghost use Rattle.std.specs.Prelude.{◌≡◌, ◌<◌, ◌≤◌, take};

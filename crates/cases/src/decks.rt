@@ -11,13 +11,13 @@ use crate::words::{MOST, put_word, word_or_0};
 const KEPT: usize = 5;
 
 // Where reading and making have got to, in words.
-#[derive(Drop)]
+#[derive(Clone, Copy)]
 struct Place {
     read: usize,
     made: usize,
 }
 
-#[derive(Drop)]
+#[derive(Clone, Copy)]
 enum Step {
     Made(Place),
     Stuck,
@@ -116,7 +116,7 @@ fn expand(data: &[u8], at: usize, count: u32, room: &mut [u8]) -> Step {
 }
 
 // Where the name's bytes stand in the data, the deck's length, and the word after it all.
-#[derive(Drop)]
+#[derive(Clone, Copy)]
 pub struct Case {
     pub name: usize,
     pub name_end: usize,
@@ -124,7 +124,7 @@ pub struct Case {
     pub next: usize,
 }
 
-#[derive(Drop)]
+#[derive(Clone, Copy)]
 pub enum Read {
     Found(Case),
     Malformed,

@@ -2,7 +2,7 @@
 use crate::words::{byte_at, four};
 
 // A number, and the place after it.
-#[derive(Drop)]
+#[derive(Clone, Copy)]
 pub struct Number {
     pub value: u32,
     pub next: usize,

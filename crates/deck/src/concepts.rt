@@ -9,7 +9,7 @@ use crate::numbers::{ClassId, ConceptId, IndividualId, RoleWord};
 use crate::rows::Span;
 use crate::{parts, trailer};
 
-#[derive(Drop)]
+#[derive(Clone, Copy)]
 pub enum ConceptExpr {
     Top,
     Bot,

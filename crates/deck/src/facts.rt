@@ -8,7 +8,7 @@ use crate::numbers::{ClassId, RoleId};
 use crate::{parts, trailer};
 
 // Each element of class `from` has an edge of the role into class `to`.
-#[derive(Drop)]
+#[derive(Clone, Copy)]
 pub struct FactRecord {
     pub from: ClassId,
     pub role: RoleId,

@@ -7,7 +7,7 @@ ghost use Rattle.deck.specs.Records.{class_form, injected_form, fact_form, conce
 use crate::{parts, rows};
 
 // A field: nothing, a flag, a number of something, or any word.
-#[derive(Drop)]
+#[derive(Clone, Copy)]
 pub enum Kind {
     Zero,
     Flag,
@@ -21,7 +21,7 @@ pub enum Kind {
 
 // Three fields: a field each, or a list (start and count) before or after a field.
 // An unknown tag has no form.
-#[derive(Drop)]
+#[derive(Clone, Copy)]
 pub enum Form {
     Fields(Kind, Kind, Kind),
     ListField(Kind, Kind),

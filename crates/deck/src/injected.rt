@@ -8,7 +8,7 @@ ghost use Rattle.deck.specs.Reads.{InjectedRead, injected_key};
 use crate::numbers::{ClassId, RoleId};
 use crate::parts;
 
-#[derive(Drop)]
+#[derive(Clone, Copy)]
 pub enum InjectedClass {
     Found(ClassId),
     Absent,

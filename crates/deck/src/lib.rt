@@ -1,4 +1,6 @@
 // Reads and checks a deck: document 01, section 1.
+#![tactic(auto)]
+
 pub mod axioms;
 pub mod classes;
 pub mod concepts;
@@ -21,7 +23,7 @@ ghost use Rattle.deck.specs.Records.{deck_answer};
 
 use crate::refusal::Refusal;
 
-#[derive(Drop)]
+#[derive(Clone, Copy)]
 pub enum DeckAnswer {
     Accepted,
     Refused(Refusal),

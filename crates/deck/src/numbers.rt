@@ -2,28 +2,28 @@
 ghost use Rattle.std.specs.Prelude.{◌≡◌};
 ghost use Rattle.deck.specs.Numbers.{inverse_word, role_number};
 
-#[derive(Drop)]
+#[derive(Clone, Copy)]
 pub struct ClassId(pub u32);
 
-#[derive(Drop)]
+#[derive(Clone, Copy)]
 pub struct RoleId(pub u32);
 
-#[derive(Drop)]
+#[derive(Clone, Copy)]
 pub struct IndividualId(pub u32);
 
-#[derive(Drop)]
+#[derive(Clone, Copy)]
 pub struct ConceptId(pub u32);
 
 // An element of a structure.
-#[derive(Drop)]
+#[derive(Clone, Copy)]
 pub struct Element(pub u32);
 
 // A word of a deck, counted from word 0.
-#[derive(Drop)]
+#[derive(Clone, Copy)]
 pub struct WordIndex(pub u32);
 
 // Twice a role's number, plus 1 if inverse.
-#[derive(Drop)]
+#[derive(Clone, Copy)]
 pub struct RoleWord(pub u32);
 
 impl RoleWord {

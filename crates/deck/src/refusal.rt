@@ -7,7 +7,7 @@ use crate::numbers::WordIndex;
 // The thirteen refusals. Document 01 calls them, in order: short copy, wrong edition, overset,
 // bad imposition, turned sort, circular copy, bad measure, short galley, foreign structure,
 // absent line; then pied type in three heaps, each with the word at which the first fault lies.
-#[derive(Drop)]
+#[derive(Clone, Copy)]
 pub enum Refusal {
     TooShort,
     UnknownEdition,

@@ -11,7 +11,7 @@ ghost use Rattle.deck.specs.Reads.{list_of, Within};
 use crate::parts;
 
 // A row or a list: so many words of lists, from a start.
-#[derive(Drop)]
+#[derive(Clone, Copy)]
 pub struct Span {
     pub start: u32,
     pub count: u32,

@@ -20,7 +20,7 @@ use deck::numbers::{ConceptId, Element, RoleWord};
 use deck::rows::{Span, item};
 
 // A concept at an element, before another concept is judged: a judgement, or the And or the Some with a named role to judge.
-#[derive(Drop)]
+#[derive(Clone, Copy)]
 enum Leaf {
     Judged(Judgement),
     And(Span),

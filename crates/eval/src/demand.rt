@@ -19,7 +19,7 @@ use crate::verdict::{Verdict, Witnesses};
 use deck::numbers::{ConceptId, Element, RoleWord};
 
 // The from or the to is in a concept, or the pair is one of another role word.
-#[derive(Drop)]
+#[derive(Clone, Copy)]
 pub enum Demand {
     Domain(ConceptId),
     Range(ConceptId),

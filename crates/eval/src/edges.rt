@@ -9,7 +9,7 @@ use crate::index::{jump, walk_of};
 use deck::numbers::{Element, RoleId, RoleWord};
 use deck::{roles, rows};
 
-#[derive(Drop)]
+#[derive(Clone, Copy)]
 pub struct Edge {
     pub role: RoleId,
     pub from: Element,

@@ -23,13 +23,13 @@ use deck::numbers::{ConceptId, Element};
 use deck::refusal::Refusal;
 use deck::{DeckAnswer, check_deck};
 
-#[derive(Drop)]
+#[derive(Clone, Copy)]
 pub enum ConceptAnswer {
     Refused(Refusal),
     Judged(Judgement),
 }
 
-#[derive(Drop)]
+#[derive(Clone, Copy)]
 pub enum AxiomAnswer {
     Refused(Refusal),
     Checked(Verdict),

@@ -8,14 +8,14 @@ use crate::edges::edge_at;
 use deck::numbers::Element;
 
 // A place in the list of edges, and the run that comes after the present one.
-#[derive(Drop)]
+#[derive(Clone, Copy)]
 pub struct Walk {
     pub at: usize,
     pub run: u32,
 }
 
 // How many edges are not in the index, at the front, and how many runs it has.
-#[derive(Drop)]
+#[derive(Clone, Copy)]
 struct Filled {
     low: u32,
     used: u32,

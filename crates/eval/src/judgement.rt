@@ -1,5 +1,5 @@
 // What judging a concept at an element comes to; an unresolved construct is named by its tag.
-#[derive(Drop)]
+#[derive(Clone, Copy)]
 pub enum Judgement {
     False,
     True,

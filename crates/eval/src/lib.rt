@@ -1,4 +1,6 @@
 // Judges concepts and axioms in a lent structure: document 01, sections 4 and 5.
+#![tactic(auto)]
+
 pub mod axioms;
 mod chains;
 mod classes;

@@ -6,7 +6,7 @@ use crate::edges::Edge;
 use crate::judgement::Judgement;
 use deck::numbers::Element;
 
-#[derive(Drop)]
+#[derive(Clone, Copy)]
 pub struct Lowest {
     pub found: bool,
     pub from: Element,

@@ -7,7 +7,7 @@ use crate::judgement::Judgement;
 use deck::numbers::{ConceptId, Element};
 
 // What the table has for a concept at an element.
-#[derive(Drop)]
+#[derive(Clone, Copy)]
 pub enum Recalled {
     Known(Judgement),
     Unknown,

@@ -4,7 +4,7 @@ ghost use Rattle.eval.specs.Standing.{fresh, and_next, some_next, and_close, som
 
 use crate::judgement::Judgement;
 
-#[derive(Drop)]
+#[derive(Clone, Copy)]
 pub struct Standing {
     pub ended: bool,
     pub noted: bool,

@@ -5,14 +5,14 @@ ghost use Rattle.eval.specs.Verdict.{words_of, fail_words, is_holds, verdict_of}
 use crate::standing::Standing;
 use deck::numbers::{Element, RoleId};
 
-#[derive(Drop)]
+#[derive(Clone, Copy)]
 pub enum Witnesses {
     One(Element),
     Two(Element, Element),
     Three(Element, Element, Element),
 }
 
-#[derive(Drop)]
+#[derive(Clone, Copy)]
 pub enum Verdict {
     Holds,
     Fails(Witnesses),

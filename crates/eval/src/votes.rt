@@ -5,7 +5,7 @@ ghost use Rattle.eval.specs.Verdict.{no_votes, vote, agreement, disjointness};
 use crate::judgement::Judgement;
 
 // How many are true, false and unresolved, and the last unresolved tag.
-#[derive(Drop)]
+#[derive(Clone, Copy)]
 pub struct Votes {
     pub trues: u32,
     pub falses: u32,

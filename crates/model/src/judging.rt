@@ -20,7 +20,7 @@ use eval::shape::Shape;
 use eval::verdict::{Verdict, verdict_words};
 
 // Whether an axiom failed, and whether one was left open.
-#[derive(Drop)]
+#[derive(Clone, Copy)]
 pub struct Judged {
     pub fails: bool,
     pub unresolved: bool,

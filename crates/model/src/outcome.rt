@@ -1,5 +1,5 @@
 // What a run comes to.
-#[derive(Drop)]
+#[derive(Clone, Copy)]
 pub enum Outcome {
     Confirmed,
     Failed,

@@ -11,7 +11,7 @@ use deck::numbers::{Element, RoleId};
 use eval::edges::{Edge, edge_at, is_sub_role};
 use eval::index::{jump, walk_of};
 
-#[derive(Drop)]
+#[derive(Clone, Copy)]
 pub enum Found {
     At(u64),
     Nothing,

@@ -136,7 +136,7 @@ fn fire_from(
 }
 
 // The step of a member's pairs, and what is known of the members after it.
-#[derive(Drop)]
+#[derive(Clone, Copy)]
 pub struct Turn {
     pub step: Step,
     pub still: Still,

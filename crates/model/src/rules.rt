@@ -10,7 +10,7 @@ use deck::numbers::{RoleId, RoleWord};
 use deck::rows::{Span, item};
 
 // An edge of the first role and then one of the second make one of the third.
-#[derive(Drop)]
+#[derive(Clone, Copy)]
 pub enum Rule {
     Compose(RoleId, RoleId, RoleId),
     NoRule,

@@ -27,7 +27,7 @@ use eval::labels::label_width;
 use eval::shape::Shape;
 
 // A refusal, or the outcome with how much was built.
-#[derive(Drop)]
+#[derive(Clone, Copy)]
 pub enum RunAnswer {
     Refused(Refusal),
     Done(Outcome, Tally),

@@ -5,7 +5,7 @@ ghost use Rattle.model.specs.Still.{passes, after};
 use deck::numbers::ConceptId;
 
 // What is known: nothing; that no member of another number would change anything; that none would.
-#[derive(Drop)]
+#[derive(Clone, Copy)]
 pub enum Still {
     Unknown,
     Others(ConceptId),

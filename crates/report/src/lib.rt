@@ -1,4 +1,6 @@
 // The program's text for an input, byte by byte: document 01, "The program".
+#![tactic(auto)]
+
 mod lines;
 mod text;
 

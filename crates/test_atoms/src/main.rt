@@ -4,6 +4,8 @@
 //
 // The input is decks with names, one after the other (cases::decks). Input of any other form ends the
 // program.
+#![tactic(auto)]
+
 ghost use Rattle.std.specs.Prelude.{◌≡◌, length};
 ghost use Rattle.deck.specs.Content.{IsAccepted};
 

@@ -10,7 +10,7 @@ use eval::judgement::Judgement;
 use libc::STDOUT_FILENO;
 
 // The numbers from `first` on, `count` of them.
-#[derive(Drop)]
+#[derive(Clone, Copy)]
 struct Span {
     first: u32,
     count: u32,

@@ -4,7 +4,7 @@ use cases::numbers::number_at;
 use cases::words::put_word;
 
 // The lengths that the case says, and the place after what was expanded.
-#[derive(Drop)]
+#[derive(Clone, Copy)]
 pub struct Case {
     pub deck: usize,
     pub labels: usize,

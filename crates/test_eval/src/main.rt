@@ -6,6 +6,8 @@
 // runs, and the runs; the number of elements; the number of edges lent, and the edges; the number of
 // edges used; then what is asked, as answers.rt reads it. Deck, labels and edges are lent at exactly
 // the lengths that the case says. Input of any other form ends the program.
+#![tactic(auto)]
+
 mod answers;
 mod lent;
 

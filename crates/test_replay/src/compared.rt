@@ -6,7 +6,7 @@ use eval::judgement::Judgement;
 use libc::STDOUT_FILENO;
 
 // How far the data was compared: the next word of it, how many words were, and how many of them differed.
-#[derive(Drop)]
+#[derive(Clone, Copy)]
 pub struct Compared {
     pub at: usize,
     pub words: u64,

@@ -4,7 +4,7 @@ use cases::words::{after, word_or_0};
 
 // What a case begins with: its length and its deck's in words; how many words of labels and of verdicts the run
 // leaves, and how many concepts the deck has; the bounds and the last phase.
-#[derive(Drop)]
+#[derive(Clone, Copy)]
 pub struct Asked {
     pub words: u32,
     pub deck_words: u32,

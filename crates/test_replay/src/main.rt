@@ -4,6 +4,8 @@
 // A case is: what is asked (data.rt); the deck; outcome, elements, edges, reasons; the labels, each word as its low
 // and its high half; the edges, oldest first; the reasons; the verdicts; and the judgement of every concept at every
 // element. A line is printed for each word that differs, and the counts at the end.
+#![tactic(auto)]
+
 mod compared;
 mod data;
 

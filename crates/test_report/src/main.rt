@@ -7,6 +7,8 @@
 // Each text is asked for in marked buffers of several lengths. After the text stands `untouched` if a
 // buffer of exactly its length gets the same text, one that is a byte shorter and an empty one get
 // nothing, and no byte past a text has changed.
+#![tactic(auto)]
+
 ghost use Rattle.std.specs.Prelude.{◌≡◌, length};
 
 use cases::decks::Read;

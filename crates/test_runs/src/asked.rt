@@ -5,7 +5,7 @@ use build::bounds::Bounds;
 use cases::words::word_or_0;
 
 // What is asked of a run: its bounds, its last phase, and how much memory it is lent.
-#[derive(Drop)]
+#[derive(Clone, Copy)]
 pub struct Asked {
     pub bounds: Bounds,
     pub last_phase: u32,

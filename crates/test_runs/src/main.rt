@@ -8,6 +8,8 @@
 //
 // Printed are: the name and the answer; a line for each buffer, its words from the first to the last
 // that was written in a row; and `untouched`, or how many words after these were written.
+#![tactic(auto)]
+
 mod asked;
 mod marks;
 

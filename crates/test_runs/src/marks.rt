@@ -46,7 +46,7 @@ pub fn mark_words(words: &mut [u32]) {
 
 // How far a buffer has been seen: whether every word so far was written, and how many were written
 // after one that was not.
-#[derive(Drop)]
+#[derive(Clone, Copy)]
 struct Seen {
     front: bool,
     stray: u64,

@@ -1,4 +1,6 @@
 // Reads a deck from standard input and prints the text of the program: document 01, "The program".
+#![tactic(auto)]
+
 mod streams;
 
 ghost use Rattle.std.specs.Prelude.{length, ◌≡◌};

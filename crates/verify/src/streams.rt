@@ -8,7 +8,7 @@ use libc::{EAGAIN, EINTR, STDIN_FILENO, STDOUT_FILENO};
 const TURNS: u64 = 1000000000000;
 
 // How far a stream has been moved, and whether that is all.
-#[derive(Drop)]
+#[derive(Clone, Copy)]
 struct Moved {
     done: usize,
     over: bool,
