@@ -32,5 +32,4 @@ pub mod RoundKeeps
 pub mod PhaseKeeps
 pub mod PhaseLaws
 pub mod RunLaws
-pub mod Lent
 pub mod SatisfiedLaws

@@ -83,8 +83,8 @@ fn expand_phase(
     tally: &mut Tally,
 ) -> bool
     requires { Prepared deck.now bounds (lent labels.old edges.old log.old) tally.old floor.now label.old }
-    ensures { (d : ℕ) → Built (deck_of deck.now) bounds (lent labels.old edges.old log.old) tally.entry.now (lent labels.new edges.new log.new) label.new (record { tally = tally.exit.now; tripped = result })
-        (expand_in (deck_of deck.now) floor.now bounds (65536 + d) (begun (deck_of deck.now) (lent labels.old edges.old log.old) tally.entry.now)) }
+    ensures { (d : ℕ) → Built (deck_of deck.now) bounds (lent labels.old edges.old log.old) tally.old (lent labels.new edges.new log.new) label.new (record { tally = tally.new; tripped = result })
+        (expand_in (deck_of deck.now) floor.now bounds (65536 + d) (begun (deck_of deck.now) (lent labels.old edges.old log.old) tally.old)) }
 {
     let t = *tally;
     let s = expand(deck, bounds, floor, label, labels, edges, log, t);
@@ -105,8 +105,8 @@ fn axioms_phase(
     tally: &mut Tally,
 ) -> bool
     requires { Prepared deck.now bounds (lent labels.old edges.old log.old) tally.old floor.now label.old }
-    ensures { Built (deck_of deck.now) bounds (lent labels.old edges.old log.old) tally.entry.now (lent labels.new edges.new log.new) label.new (record { tally = tally.exit.now; tripped = result })
-        (expand_from_axioms (deck_of deck.now) floor.now bounds (begun (deck_of deck.now) (lent labels.old edges.old log.old) tally.entry.now)) }
+    ensures { Built (deck_of deck.now) bounds (lent labels.old edges.old log.old) tally.old (lent labels.new edges.new log.new) label.new (record { tally = tally.new; tripped = result })
+        (expand_from_axioms (deck_of deck.now) floor.now bounds (begun (deck_of deck.now) (lent labels.old edges.old log.old) tally.old)) }
 {
     let t = *tally;
     let s = expand_from_axioms(deck, bounds, floor, label, labels, edges, log, t);
@@ -124,8 +124,8 @@ fn closing_phase(
     tally: &mut Tally,
 ) -> bool
     requires { Ready deck.now bounds.max_edges edges.old tally.old }
-    ensures { Left bounds.max_edges edges.old log.old tally.entry.now edges.new log.new (record { tally = tally.exit.now; tripped = result })
-        (close (deck_of deck.now) tally.entry.now.elements bounds.max_edges (start edges.old log.old tally.entry.now)) }
+    ensures { Left bounds.max_edges edges.old log.old tally.old edges.new log.new (record { tally = tally.new; tripped = result })
+        (close (deck_of deck.now) tally.old.elements bounds.max_edges (start edges.old log.old tally.old)) }
 {
     let t = *tally;
     let s = close_chains_and_transitivity(deck, bounds, edges, log, t);
@@ -149,8 +149,8 @@ fn later_phases(
     requires prepared { Prepared deck.now bounds (lent labels.old edges.old log.old) tally.old floor.now label.old }
     requires edges_fit { EdgesFit (deck_of deck.now) tally.old.elements (edges_of edges.old tally.old.edges) }
     requires floor_value { floor.now ≡ floor_label (deck_of deck.now) }
-    ensures { Built (deck_of deck.now) bounds (lent labels.old edges.old log.old) tally.entry.now (lent labels.new edges.new log.new) label.new (record { tally = tally.exit.now; tripped = result })
-        (later_phases (deck_of deck.now) bounds last_phase (begun (deck_of deck.now) (lent labels.old edges.old log.old) tally.entry.now)) }
+    ensures { Built (deck_of deck.now) bounds (lent labels.old edges.old log.old) tally.old (lent labels.new edges.new log.new) label.new (record { tally = tally.new; tripped = result })
+        (later_phases (deck_of deck.now) bounds last_phase (begun (deck_of deck.now) (lent labels.old edges.old log.old) tally.old)) }
 {
     if last_phase < 2 {
         return false;

@@ -1,2 +1,0 @@
-pub mod At_Tally
-pub mod Short

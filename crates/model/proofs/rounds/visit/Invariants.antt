@@ -1,0 +1,13 @@
+use Prim.Native.Nat.{◌-◌, ◌≤◌}
+use lib.ListN.{drop}
+use Rattle.deck.specs.Content.{deck_of}
+use Rattle.build.specs.Model.{lent}
+use Rattle.model.specs.Rounds.{fire_axiom}
+use Rattle.build.proofs.BuildLaws.{OnModel}
+use Rattle.model.proofs.rounds.visit.Given as goal
+
+abbrev pub invariant-loop-i : goal.invariant-loop-i
+invariant-loop-i l = (l.i ≤ l.count) × OnModel (deck_of l.deck) l.bounds (fire_axiom (deck_of l.deck) l.floor l.bounds l.e.0) (deck_of l.deck).axioms (drop l.i (deck_of l.deck).axioms) (lent l.initial.labels l.initial.edges l.initial.log) l.initial.held (lent l.labels l.edges l.log) l.label l.held
+
+abbrev pub decreases-loop-i : goal.decreases-loop-i
+decreases-loop-i l = l.count - l.i
