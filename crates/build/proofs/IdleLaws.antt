@@ -20,13 +20,13 @@ use Rattle.deck.specs.Numbers.{inverse_word, role_number}
 use Rattle.deck.specs.Deck.{Deck, Concept, Role, concept_at}
 use Rattle.deck.specs.Content.{IsAccepted, deck_of}
 use Rattle.deck.specs.Reads.{ConceptRead, expr_of}
-use Rattle.eval.specs.Numbered.{numbered, below}
+use Rattle.eval.specs.Numbered.{numbered}
 use Rattle.eval.proofs.Clash.{clash}
 use Rattle.atoms.proofs.FloorLaws.{read_is}
 use Rattle.build.specs.declared.bounds.Bounds.{Bounds}
 use Rattle.build.specs.declared.tally.Tally.{Tally}
 use Rattle.build.specs.Model.{Model, Buffers, begun}
-use Rattle.build.specs.Exists.{builds, builds_at, work_of, work_step, idle, work}
+use Rattle.build.specs.Exists.{builds, builds_at, work_of, work_step, work}
 use Rattle.build.specs.Quiet.{Known, Quiet, Skipped}
 use Rattle.build.proofs.QuietLaws.{known-idle}
 

@@ -15,7 +15,7 @@ use lib.Dec.{ltb}
 use borrow.Author.Tests.{lt-ltb, le-ltb}
 use Rattle.eval.specs.Lent.{bit, member_in}
 use Rattle.atoms.specs.Label.{same_label, label_has}
-use Rattle.atoms.specs.Rows.{put, flat, row_at, rows_of, Wide, none, more}
+use Rattle.atoms.specs.Rows.{put, flat, row_at, rows_of, Wide, none}
 use Rattle.build.specs.Intern.{index_of, interned, Placed, Held}
 use Rattle.atoms.proofs.RowLaws.{wide-append, length-rows, rows_at, rows-wide, flat_rows, length-flat, put_self, put-put, put-nil, length-put, rows-put, appended}
 
