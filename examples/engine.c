@@ -8,8 +8,8 @@
  *
  * It compiles as C99 and as C++17. In the repository's top folder:
  *
- *     rt staticlib capi
- *     cc -std=c99 -Iinclude examples/engine.c target/staticlib/libcapi.a -lpthread -o engine
+ *     (cd crates/capi && rt lib)
+ *     cc -std=c99 -Iinclude examples/engine.c crates/capi/out/libcapi.a -lpthread -o engine
  */
 #include <inttypes.h>
 #include <pthread.h>

@@ -1,4 +1,4 @@
-/* The style-deck verifier, for a program that links it: target/staticlib/libcapi.a, made by `rt staticlib capi`.
+/* The style-deck verifier, for a program that links it: crates/capi/out/libcapi.a, made by `rt lib` in crates/capi.
  *
  * Every function takes numbers and lent memory only. It keeps no pointer and no state, allocates nothing, reads and
  * writes no file, and may be called from several threads at once with memory that they do not share.

@@ -24,7 +24,7 @@ try() {
 compile() {
     program=$made/$1 file=$2
     shift 2
-    "$@" -O2 -Wall -Wextra -pedantic -Werror -Iinclude "$file" -x none target/staticlib/libcapi.a -lpthread -o "$program"
+    "$@" -O2 -Wall -Wextra -pedantic -Werror -Iinclude "$file" -x none crates/capi/out/libcapi.a -lpthread -o "$program"
 }
 
 # The engine on the sample deck prints these lines.
@@ -45,12 +45,14 @@ engine_refuses() {
     ! "$made/$1" "$made/faulty" >"$made/printed" && echo "refused 12 at word 22" | diff -u - "$made/printed"
 }
 
+library() { (cd crates/capi && rt lib); }
+program() { (cd crates/verify && rt run <stdin); }
 wrapper() { (cd bindings/rust && cargo test --offline); }
 readings() { (cd tests/differential && cargo test --offline --release); }
 compared() { (cd tests/differential && cargo run --offline --release -- 1 20000); }
 
 mkdir -p "$made" || exit 1
-try "the static library" rt staticlib capi
+try "the static library" library
 for language in "c99 cc -std=c99" "c++17 c++ -x c++ -std=c++17"; do
     set -- $language
     standard=$1
@@ -65,7 +67,7 @@ for maker in decks judgements universals runs reports; do
     try "test data of make_$maker.py" python3 tests/make_$maker.py --check
 done
 try "the Rust wrapper's tests" wrapper
-try "the program" rt check verify
+try "the program" program
 try "its input and output, whole and in pieces" python3 tests/streams.py
 if [ -n "$STYLE_DECK_RUST" ]; then
     try "the comparison's reader of decks" readings

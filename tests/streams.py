@@ -1,7 +1,7 @@
 #!/usr/bin/env python3
 """How `verify` takes its input and gives its text: in pieces, late, not at all, to a reader that is slow.
 
-    python3 tests/streams.py [PROGRAM]       the program is target/bin/verify if none is named
+    python3 tests/streams.py [PROGRAM]       the program is crates/verify/out/verify if none is named
 
 Its text must be that of make_reports.py, whatever way the bytes come and go; where the input cannot be read, that of no
 bytes. Prints what differs; exit 1 if anything does.
@@ -124,7 +124,7 @@ def runs(program):
 def main():
     if len(sys.argv) > 2:
         sys.exit('%s [PROGRAM]' % sys.argv[0])
-    program = os.path.abspath(sys.argv[1] if len(sys.argv) == 2 else HERE.parent / 'target/bin/verify')
+    program = os.path.abspath(sys.argv[1] if len(sys.argv) == 2 else HERE.parent / 'crates/verify/out/verify')
     bad = 0
     for name, found, data in runs(program):
         if found != wanted(data):

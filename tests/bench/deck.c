@@ -6,7 +6,7 @@
 // The check against that of another libbench_deck.a, turn by turn in one run, deck W besides, whose time hangs on where the code
 // lies: link the two in either order.
 //     objcopy --redefine-sym check_deck_number=check_before -L sum_words OTHER/libbench_deck.a target/before.a
-//     gcc -O2 -DBEFORE -o target/bench_ratio tests/bench/deck.c target/staticlib/libbench_deck.a target/before.a
+//     gcc -O2 -DBEFORE -o target/bench_ratio tests/bench/deck.c crates/bench_deck/out/libbench_deck.a target/before.a
 #include <stdint.h>
 #include <stdio.h>
 #include <stdlib.h>

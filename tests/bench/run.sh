@@ -1,15 +1,16 @@
 #!/bin/sh
 # Builds and runs the benches. Run it from the repository's top. Exit status 0: all measures are kept.
 set -e
+mkdir -p target
 for name in deck eval; do
-    rt staticlib bench_$name
-    gcc -O2 -Wall -Wextra -o target/bench_$name tests/bench/$name.c target/staticlib/libbench_$name.a
+    (cd crates/bench_$name && rt lib)
+    gcc -O2 -Wall -Wextra -o target/bench_$name tests/bench/$name.c crates/bench_$name/out/libbench_$name.a
 done
-rt staticlib capi
+(cd crates/capi && rt lib)
 for name in deep stalls shared; do
-    gcc -O2 -Wall -Wextra -o target/bench_$name tests/bench/$name.c target/staticlib/libcapi.a -lpthread
+    gcc -O2 -Wall -Wextra -o target/bench_$name tests/bench/$name.c crates/capi/out/libcapi.a -lpthread
 done
-rt check verify
+(cd crates/verify && rt run <stdin)
 target/bench_deck
 (ulimit -s 8192 && target/bench_eval)
 failed=0

@@ -2,7 +2,7 @@
 """Times the program verify on decks that a verifier could stall on: nested Somes, shared Ands, wide lists. Prints for
 each its bytes, its processor seconds (the best of three; stopped at 20) and the first line of the output. Exit
 status 1: a deck of nested Somes or shared Ands took 0.05 s or more, or one of wide lists a second or more. Run it from
-the repository's top after `rt check verify`.
+the repository's top after `(cd crates/verify && rt run <stdin)`.
 
     python3 tests/bench/stalls.py            the decks below
     python3 tests/bench/stalls.py 1 300      random decks of nested Somes only: a seed and how many
@@ -19,7 +19,7 @@ from make_judgements import (AND, ATOMIC, BOT, DISJOINT, DOMAIN, EQUIVALENT, RAN
                              TRANSITIVE, named)
 from make_runs import Rows, own                                                                           # noqa: E402
 
-PROGRAM, MOST = 'target/bin/verify', 65536
+PROGRAM, MOST = 'crates/verify/out/verify', 65536
 ELEMENTS, EDGES = 255, 1000          # the program's bounds
 JUDGING, WIDE = 0.05, 1              # seconds that a deck has
 STOPPED = 20                         # seconds at which it is stopped

@@ -1,6 +1,6 @@
 #!/usr/bin/env python3
 """Times the program verify on deck W and on decks of the size that it takes at most: seconds, the best of five,
-peak memory, and the stack that it needs. Run it from the repository's top after `rt check verify`.
+peak memory, and the stack that it needs. Run it from the repository's top after `(cd crates/verify && rt run <stdin)`.
 
     python3 tests/bench/verify.py
 """
@@ -15,7 +15,7 @@ from make_decks import deck_w                                                   
 from make_judgements import AND, ATOMIC, EQUIVALENT, SOME, SUB_CLASS, TRANSITIVE, named  # noqa: E402
 from make_runs import Rows                                                               # noqa: E402
 
-PROGRAM, MOST = 'target/bin/verify', 65536
+PROGRAM, MOST = 'crates/verify/out/verify', 65536
 
 
 def full():

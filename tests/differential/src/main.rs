@@ -1,6 +1,6 @@
 //! Runs the original and the static library on the same decks and compares every answer.
 //!
-//!     rt staticlib capi
+//!     (cd crates/capi && rt lib)
 //!     cd tests/differential
 //!     STYLE_DECK_RUST=… cargo run --offline --release -- SEED COUNT
 //!
