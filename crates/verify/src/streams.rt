@@ -1,10 +1,9 @@
 // Standard input and standard output. A call that was interrupted, or that would have to wait, is made again.
-ghost use Rattle.std.specs.Prelude.{◌≡◌, ◌<◌, ◌≤◌, length, take};
+ghost use Rattle.std.specs.Prelude.{◌≡◌, ◌<◌, ◌≤◌, IfOk, length};
 ghost use Rattle.report.specs.Text.{program_text};
 
-use std::io;
 use std::io::{ErrorKind, Read, Stdin, Stdout, Write};
-use std::thread;
+use std::{io, thread};
 
 // How often a call is made at most: for days.
 const TURNS: u64 = 1000000000000;
