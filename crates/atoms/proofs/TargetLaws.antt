@@ -2,7 +2,7 @@
 -- Assumes nothing.
 use Prim.Native.Nat.{ℕ, ◌<◌}
 use mathlib.Core.Bool.{Bool, true, false, cond}
-use mathlib.Core.Path.{◌≡◌, refl, subst}
+use mathlib.Core.Path.{◌≡◌, subst}
 use native.Mathlib.Omega.{arith}
 use Rattle.deck.specs.Deck.{Deck, class_at, class_count, injected_class}
 use Rattle.deck.specs.Sound.{Sound}
@@ -10,7 +10,6 @@ use Rattle.deck.specs.Reads.{RealClass}
 use Rattle.deck.specs.declared.numbers.ClassId.{ClassId}
 use Rattle.deck.specs.declared.injected.InjectedClass.{InjectedClass}
 use Rattle.deck.specs.declared.injected.InjectedClass.TheVariants.{Found, Absent}
-use Rattle.atoms.specs.declared.target_label.Target.{Target}
 use Rattle.atoms.specs.declared.target_label.Target.TheVariants.{Row, Delta, NotClosed}
 use Rattle.atoms.specs.Target.{holds_range, by_injected, target_of, TargetFits}
 

@@ -3,11 +3,11 @@
 use mathlib.Core.Path.{◌≡◌, refl}
 use mathlib.Core.List.{List}
 use Prim.Native.Nat.{ℕ, ◌<◌}
-use lib.ListN.{length, get_or}
+use lib.ListN.{length}
 use Rattle.deck.specs.Trailer.{part_count, real_of, dropped}
-use Rattle.deck.specs.Forms.{Counts, counts_of}
+use Rattle.deck.specs.Forms.{counts_of}
 use Rattle.deck.specs.Deck.{class_count, role_count, concept_count, axiom_count, fact_count, class_at, role_at, injected_at, concept_at, axiom_at, fact_at}
-use Rattle.deck.specs.Content.{deck_of, table, class_in, role_in, injected_in, concept_in, axiom_in, fact_in}
+use Rattle.deck.specs.Content.{deck_of, class_in, role_in, injected_in, concept_in, axiom_in, fact_in}
 use Rattle.deck.specs.Sound.{counts_in}
 use Rattle.deck.proofs.TableLaws.{table-length, table_at}
 

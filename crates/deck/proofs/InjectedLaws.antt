@@ -1,24 +1,23 @@
 -- The injected class of (y, r): the records rise by one number, their key, and at most one has the key of (y, r).
 -- Assumes nothing.
-use mathlib.Core.Path.{◌≡◌, refl, sym, ap, ◌∙◌}
-use mathlib.Core.Bool.{Bool, true, false, ◌&&◌, cond}
+use mathlib.Core.Path.{◌≡◌, refl, sym}
+use mathlib.Core.Bool.{Bool, true, false, ◌&&◌}
 use mathlib.Core.List.{List}
 use mathlib.Core.Logic.{⊎_elim}
-use Prim.Native.Nat.{ℕ, zero, suc, ◌+◌, ◌*◌, ◌<◌, ◌≤◌}
+use Prim.Native.Nat.{ℕ, zero, suc, ◌+◌, ◌*◌, ◌<◌}
 use native.Mathlib.Nat.{not-suc-le-zero, le_of_suc-le-suc}
 use native.Mathlib.Omega.{arith}
-use borrow.Author.Tests.{eqb-true, eqb-false, eq-eqb, ne_eqb}
+use borrow.Author.Tests.{eqb-true, eq-eqb}
 use lib.Dec.{eqb}
-use Rattle.deck.specs.declared.injected.InjectedClass.{InjectedClass}
 use Rattle.deck.specs.declared.injected.InjectedClass.TheVariants.{Found, Absent}
 use Rattle.deck.specs.Trailer.{part_count}
 use Rattle.deck.specs.Parts.{part_word}
-use Rattle.deck.specs.Deck.{InjectedEntry, injected_class, class_count, role_count}
+use Rattle.deck.specs.Deck.{InjectedEntry, injected_class, role_count}
 use Rattle.deck.specs.Content.{IsAccepted, deck_of, table, injected_in}
 use Rattle.deck.specs.Reads.{injected_key, InjectedRead}
 use Rattle.deck.proofs.TrailerLaws.{count-within}
 use Rattle.deck.proofs.AcceptedLaws.{framed}
-use Rattle.deck.proofs.DeckLaws.{class-count, role-count, real-is}
+use Rattle.deck.proofs.DeckLaws.{class-count, role-count}
 use Rattle.deck.proofs.SoundLaws.{injected-fits, injected-rises}
 use Rattle.deck.proofs.SearchLaws.{Rising, rising}
 

@@ -1,41 +1,24 @@
 -- What the words of a record, read from an accepted deck, give: the facts that the readers promise.
 -- Assumes nothing.
-use mathlib.Core.Path.{◌≡◌, refl, sym, ap, ◌∙◌}
-use mathlib.Core.Bool.{Bool, true, false, ◌&&◌, cond}
-use mathlib.Core.List.{List, [], ◌∷◌}
-use mathlib.Core.Logic.{⊎_elim}
-use Prim.Native.Nat.{ℕ, zero, suc, ◌+◌, ◌*◌, ◌<◌, ◌≤◌}
-use native.Mathlib.Nat.{not-suc-le-zero}
-use native.Mathlib.Omega.{arith}
-use borrow.Author.Tests.{eqb-true, eq-eqb, ne_eqb}
+use mathlib.Core.Path.{◌≡◌, refl}
+use mathlib.Core.Bool.{true}
+use mathlib.Core.List.{List}
+use Prim.Native.Nat.{ℕ, ◌+◌, ◌<◌}
 use lib.Dec.{eqb, ltb}
-use lib.ListN.{length, get_or}
-use Rattle.deck.specs.declared.rows.Span.{Span}
-use Rattle.deck.specs.declared.concepts.ConceptExpr.{ConceptExpr}
-use Rattle.deck.specs.declared.axioms.AxiomRecord.{AxiomRecord}
-use Rattle.deck.specs.declared.facts.FactRecord.{FactRecord}
-use Rattle.deck.specs.declared.injected.InjectedClass.{InjectedClass}
-use Rattle.deck.specs.declared.injected.InjectedClass.TheVariants.{Found, Absent}
-use Rattle.deck.specs.declared.forms.Kind.TheVariants.{Flag, Class}
-use Rattle.deck.specs.declared.forms.Form.TheVariants.{FieldList}
 use Rattle.deck.specs.Trailer.{part_count}
 use Rattle.deck.specs.Parts.{part_word}
 use Rattle.deck.specs.Rows.{row_shape, row_rises}
 use Rattle.deck.specs.Records.{concept_form, axiom_form}
-use Rattle.deck.specs.Deck.{InjectedEntry, injected_class, class_count, role_count, concept_count, axiom_count, fact_count, class_at, role_at, concept_at, axiom_at, fact_at}
-use Rattle.deck.specs.Content.{IsAccepted, deck_of, list_at, table, class_in, role_in, injected_in, concept_in, axiom_in, axiom_of, fact_in}
-use Rattle.deck.specs.Sound.{counts_in}
+use Rattle.deck.specs.Deck.{class_count, role_count, concept_count, axiom_count, fact_count, class_at, role_at}
+use Rattle.deck.specs.Content.{IsAccepted, deck_of, class_in, role_in, concept_in, axiom_in, fact_in}
 use Rattle.deck.specs.Exprs.{expr_at}
-use Rattle.deck.specs.Reads.{list_of, ListFits, span_at, axiom_words, RowRead, ConceptRead, AxiomRead, FactRead, InjectedRead, FormFits, expr_of, ExprFits, injected_key, RealClass}
+use Rattle.deck.specs.Reads.{list_of, span_at, axiom_words, RowRead, ConceptRead, AxiomRead, FactRead, FormFits}
 use Rattle.deck.proofs.BelowLaws.{and_left, and_right}
-use Rattle.deck.proofs.TableLaws.{table-length, table_at}
-use Rattle.deck.proofs.TrailerLaws.{count-within}
 use Rattle.deck.proofs.AcceptedLaws
 use Rattle.deck.proofs.DeckLaws
 use Rattle.deck.proofs.FormLaws.{list-fits, list-rises, form-fits}
 use Rattle.deck.proofs.TagLaws
 use Rattle.deck.proofs.SoundLaws
-use Rattle.deck.proofs.SearchLaws.{Rising}
 
 -- ---- rows
 module _ (s : List ℕ) (n p k f : ℕ) where

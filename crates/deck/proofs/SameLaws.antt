@@ -10,7 +10,7 @@ use native.Mathlib.Omega.{arith}
 use lib.ListN.{length, get_or, get_or-eq_default}
 use Rattle.deck.specs.declared.forms.Form.{Form}
 use Rattle.deck.specs.declared.forms.Form.TheVariants.{Fields, ListField, FieldList, Unknown}
-use Rattle.deck.specs.Trailer.{part_count, dropped}
+use Rattle.deck.specs.Trailer.{part_count}
 use Rattle.deck.specs.Parts.{part_word, list_word}
 use Rattle.deck.specs.Records.{concept_form, concept_forms, axiom_form, axiom_forms}
 use Rattle.deck.specs.Content.{table, list_at, list_in, make_concept, make_axiom, concept_of, axiom_of, class_in, role_in, injected_in, concept_in, axiom_in, fact_in, deck_of}

@@ -1,24 +1,21 @@
 -- Every accepted deck is sound and within the limits: `sound`, `limited`.
 -- Assumes nothing.
-use mathlib.Core.Path.{◌≡◌, refl, sym, ◌∙◌}
+use mathlib.Core.Path.{◌≡◌, refl, ◌∙◌}
 use mathlib.Core.Logic.{◌⊎◌, inl, inr}
 use mathlib.Core.Bool.{Bool, true, false, ◌&&◌, ◌||◌}
 use mathlib.Core.List.{List}
-use Prim.Native.Nat.{ℕ, zero, suc, ◌+◌, ◌-◌, ◌<◌, ◌≤◌}
+use Prim.Native.Nat.{ℕ, ◌+◌, ◌-◌, ◌<◌, ◌≤◌}
 use native.Mathlib.Omega.{arith}
-use borrow.Author.Tests.{ltb-true, eqb-true, ne_eqb}
-use lib.Dec.{ltb, eqb, lit≤}
-use lib.ListN.{length}
+use borrow.Author.Tests.{ltb-true, eqb-true}
+use lib.Dec.{ltb, eqb}
 use Rattle.deck.specs.declared.forms.Kind.TheVariants.{Flag, Class, RealClass, Role}
 use Rattle.deck.specs.declared.forms.Form.TheVariants.{Fields, FieldList}
-use Rattle.deck.specs.Trailer.{part_count, real_of, limit_of}
+use Rattle.deck.specs.Trailer.{part_count, limit_of}
 use Rattle.deck.specs.Parts.{part_word}
 use Rattle.deck.specs.Rows.{row_shape, row_rises, row_has}
-use Rattle.deck.specs.Forms.{Counts, counts_of}
-use Rattle.deck.specs.Records.{class_shape, injected_shape, injected_order, concept_form, axiom_form, fact_shape}
-use Rattle.deck.specs.Deck.{Deck, has, class_count, role_count, concept_count, axiom_count, fact_count, class_at, role_at, injected_at, concept_at, axiom_at, fact_at}
-use Rattle.deck.specs.Content.{IsAccepted, deck_of, class_in, role_in, injected_in, concept_in, axiom_in, fact_in, list_at}
-use Rattle.deck.specs.Sound.{Sound, Limited, ClassFits, RoleFits, InjectedFits, Before, ConceptFits, AxiomFits, FactFits, EachBelow, counts_in}
+use Rattle.deck.specs.Records.{concept_form, axiom_form}
+use Rattle.deck.specs.Content.{IsAccepted, deck_of, class_in, role_in, injected_in, concept_in, axiom_in, fact_in}
+use Rattle.deck.specs.Sound.{Sound, Limited, ClassFits, RoleFits, InjectedFits, Before, ConceptFits, AxiomFits, FactFits, counts_in}
 use Rattle.deck.proofs.BelowLaws.{and_left, and_right}
 use Rattle.deck.proofs.TrailerLaws.{count-within, real-within}
 use Rattle.deck.proofs.AcceptedLaws

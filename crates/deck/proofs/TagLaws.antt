@@ -1,17 +1,16 @@
 -- Concepts and axioms by tag: fields of the tag's form make a concept or an axiom whose numbers are in range.
 -- Assumes nothing.
-use mathlib.Core.Path.{◌≡◌, refl, sym, ap, ◌∙◌}
+use mathlib.Core.Path.{◌≡◌, refl}
 use mathlib.Core.Logic.{⊎_elim}
 use mathlib.Core.Bool.{Bool, true, false, cond}
 use mathlib.Core.List.{List, map}
-use Prim.Native.Nat.{ℕ, ◌+◌, ◌*◌, ◌/◌, ◌<◌, ◌≤◌}
+use Prim.Native.Nat.{ℕ, ◌*◌, ◌/◌, ◌<◌, ◌≤◌}
 use native.Mathlib.Omega.{arith}
 use lib.ListN.{length, get_or, length-map, get_or-map, get_or-eq_default}
-use Rattle.deck.specs.declared.rows.Span.{Span}
 use Rattle.deck.specs.declared.forms.Form.{Form}
 use Rattle.deck.specs.declared.forms.Form.TheVariants.{Unknown}
 use Rattle.deck.specs.Numbers.{inverse_word}
-use Rattle.deck.specs.Deck.{Role, role_of, role_id, class_count, role_count}
+use Rattle.deck.specs.Deck.{Role, role_of, role_id}
 use Rattle.deck.specs.Records.{concept_form, concept_forms, axiom_form, axiom_forms}
 use Rattle.deck.specs.Content.{list_at, concept_of, make_concept, axiom_of, make_axiom, deck_of}
 use Rattle.deck.specs.Sound.{EachBelow, EachRole, counts_in, ConceptFits, AxiomFits}

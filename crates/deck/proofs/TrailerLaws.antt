@@ -2,19 +2,17 @@
 -- Assumes nothing.
 use mathlib.Core.Path.{◌≡◌, refl, sym, subst}
 use mathlib.Core.Logic.{⊎_elim}
-use mathlib.Core.Bool.{Bool, true, false, ◌&&◌}
+use mathlib.Core.Bool.{true, ◌&&◌}
 use mathlib.Core.List.{List}
 use Prim.Native.Nat.{ℕ, zero, suc, ◌+◌, ◌*◌, ◌%◌, ◌≤◌, ◌<◌}
 use native.Mathlib.Numerals.{add-one}
-use native.Mathlib.Nat.{mul-le-mul_left, mul-le-mul_right, eq-or-lt_of_le, le_of_suc-le-suc, not-suc-le-zero, suc-mul, le_trans}
+use native.Mathlib.Nat.{mul-le-mul_left, mul-le-mul_right, eq-or-lt_of_le, le_of_suc-le-suc, not-suc-le-zero, suc-mul}
 use native.Mathlib.Omega.{arith}
 use borrow.Author.Tests.{eqb-true, leb-true}
 use lib.Dec.{lit≤, eqb, leb}
 use lib.ListN.{length}
-use Rattle.deck.specs.declared.refusal.Refusal.{Refusal}
-use Rattle.deck.specs.declared.DeckAnswer.{DeckAnswer}
-use Rattle.deck.specs.declared.DeckAnswer.TheVariants.{Accepted, Refused}
-use Rattle.deck.specs.Answer.{unless, trailer_answer, Framed}
+use Rattle.deck.specs.declared.DeckAnswer.TheVariants.{Accepted}
+use Rattle.deck.specs.Answer.{trailer_answer, Framed}
 use Rattle.deck.specs.Word.{trailer_at}
 use Rattle.deck.specs.Trailer.{limit_of, width_of, words_before, part_count, part_start, starts_fit, start_fits, counts_fit, count_fits, layout_fits, body_count, real_of, edition}
 use Rattle.deck.specs.Parts.{part_place}

@@ -1,12 +1,12 @@
 -- The content of a deck's bytes.
-use Rattle.std.specs.Prelude.{ℕ, zero, suc, ◌+◌, ◌≡◌, List, [], ◌∷◌, map, Bool, eqb, get_or}
+use Rattle.std.specs.Prelude.{ℕ, zero, suc, ◌+◌, ◌≡◌, List, [], ◌∷◌, map, eqb, get_or}
 use Rattle.deck.specs.declared.DeckAnswer.TheVariants.{Accepted}
 use Rattle.deck.specs.declared.forms.Form.{Form}
 use Rattle.deck.specs.declared.forms.Form.TheVariants.{Fields, ListField, FieldList, Unknown}
 use Rattle.deck.specs.Trailer.{part_count, real_of, dropped}
 use Rattle.deck.specs.Parts.{part_word, list_word}
 use Rattle.deck.specs.Records.{deck_answer, concept_form, axiom_form}
-use Rattle.deck.specs.Deck.{ClassEntry, RoleEntry, InjectedEntry, Fact, Role, role_of, Concept, Axiom, Deck}
+use Rattle.deck.specs.Deck.{ClassEntry, RoleEntry, InjectedEntry, Fact, role_of, Concept, Axiom, Deck}
 
 -- the reader accepts the deck
 abbrev pub IsAccepted : List ℕ → Type 0

@@ -1,5 +1,5 @@
 -- What a deck says, whatever its bytes: document 01, section 1. Every definition of the crates above takes this.
-use Rattle.std.specs.Prelude.{ℕ, ◌/◌, ◌%◌, Bool, true, false, cond, ◌||◌, ◌&&◌, List, [], ◌∷◌, length, get_or, eqb}
+use Rattle.std.specs.Prelude.{ℕ, Bool, true, false, cond, ◌||◌, ◌&&◌, List, [], ◌∷◌, length, get_or, eqb}
 use Rattle.deck.specs.declared.injected.InjectedClass.{InjectedClass}
 use Rattle.deck.specs.declared.injected.InjectedClass.TheVariants.{Found, Absent}
 use Rattle.deck.specs.Numbers.{inverse_word, role_number}

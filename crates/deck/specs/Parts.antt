@@ -1,7 +1,7 @@
 -- The words of the records of the parts.
 use Rattle.std.specs.Prelude.{ℕ, ◌+◌, ◌*◌, List}
 use Rattle.deck.specs.Word.{word_at}
-use Rattle.deck.specs.Trailer.{part_start, part_count, width_of}
+use Rattle.deck.specs.Trailer.{part_start, width_of}
 
 -- the place of field f of record k of part p, counted in words from word 0
 unfoldable pub part_place : List ℕ → ℕ → ℕ → ℕ → ℕ

@@ -1,16 +1,15 @@
 -- What reading an accepted deck gives: each value as the deck has it, with its range.
-use Rattle.std.specs.Prelude.{ℕ, ◌+◌, ◌*◌, ◌<◌, ◌≤◌, ◌≡◌, List, [], ◌∷◌, get_or}
+use Rattle.std.specs.Prelude.{ℕ, ◌+◌, ◌*◌, ◌<◌, ◌≤◌, ◌≡◌, List}
 use Rattle.deck.specs.declared.rows.Span.{Span}
 use Rattle.deck.specs.declared.injected.InjectedClass.{InjectedClass}
 use Rattle.deck.specs.Parts.{part_word}
-use Rattle.deck.specs.declared.forms.Kind.{Kind}
 use Rattle.deck.specs.declared.forms.Form.{Form}
 use Rattle.deck.specs.declared.forms.Form.TheVariants.{Fields, ListField, FieldList, Unknown}
 use Rattle.deck.specs.declared.concepts.ConceptExpr.{ConceptExpr}
 use Rattle.deck.specs.declared.axioms.AxiomRecord.{AxiomRecord}
 use Rattle.deck.specs.declared.facts.FactRecord.{FactRecord}
 use Rattle.deck.specs.Trailer.{part_count}
-use Rattle.deck.specs.Forms.{Counts, bound_of}
+use Rattle.deck.specs.Forms.{bound_of}
 use Rattle.deck.specs.Records.{axiom_form}
 use Rattle.deck.specs.Deck.{Concept, Deck, injected_class, role_of, Fact, concept_at, axiom_at, fact_at, class_count, role_count, concept_count}
 use Rattle.deck.specs.Content.{list_at, axiom_of, deck_of}

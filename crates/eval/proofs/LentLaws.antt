@@ -15,7 +15,7 @@ use Rattle.deck.proofs.TagLaws.{role-id}
 use Rattle.eval.specs.declared.edges.Edge.{Edge}
 use Rattle.eval.specs.declared.shape.Shape.{Shape}
 use Rattle.eval.specs.Standing.{fresh}
-use Rattle.eval.specs.Structure.{Structure, elements, has_edge, has_pair, successors_of, inverse}
+use Rattle.eval.specs.Structure.{Structure, elements, has_edge, has_pair, successors_of}
 use Rattle.eval.specs.Edges.{edge_of, edges_of, edges_by, turned, under, leaves, goes, linked}
 use Rattle.eval.specs.Judge.{judge, some_from}
 use Rattle.eval.specs.Lent.{Fits, EdgeFits, structure_of}

@@ -1,7 +1,7 @@
 -- The edges of a role in a lent structure: sub-roles' buckets, or one walk over the list with a test of the role.
 use Prim.Native.Nat.{ℕ, ◌/◌}
 use mathlib.Core.Bool.{Bool, true, false, ◌&&◌, ◌||◌}
-use mathlib.Core.Path.{◌≡◌, refl, sym, ap}
+use mathlib.Core.Path.{◌≡◌, refl, sym}
 use mathlib.Core.Logic.{⊎_elim}
 use mathlib.Core.List.Memᴰ.{cases_cons}
 use mathlib.Core.List.Memᴰ.{head as here}

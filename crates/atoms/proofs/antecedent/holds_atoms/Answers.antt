@@ -1,0 +1,8 @@
+use mathlib.Core.Path.{sym, ◌∙◌}
+use Rattle.deck.proofs.SoundLaws.{sound}
+use Rattle.atoms.proofs.LeafLaws.{holds-leaves}
+use Rattle.atoms.proofs.antecedent.holds_atoms.Goals as goal
+
+pub returns : goal.returns
+returns c =
+    c.answer_soon.ensures ∙ sym (holds-leaves _ (sound _ c.requires.accepted) c.args.e _ c.args.concept.0)

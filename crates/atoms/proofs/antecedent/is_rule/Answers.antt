@@ -1,0 +1,11 @@
+use mathlib.Core.Path.{sym, ◌∙◌}
+use Rattle.atoms.proofs.AntecedentLaws.{rule-atom, rule-universal}
+use Rattle.atoms.proofs.antecedent.is_rule.Goals as goal
+
+pub returns-then-has_atom : goal.returns-then-has_atom
+returns-then-has_atom c =
+    rule-atom _ _ (sym c.has_atom.ensures ∙ c.if-has_atom.true)
+
+pub returns : goal.returns
+returns c =
+    c.is_universal_antecedent.ensures ∙ rule-universal _ _ (sym c.has_atom.ensures ∙ c.if-has_atom.false)

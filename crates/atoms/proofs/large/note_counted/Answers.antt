@@ -1,0 +1,16 @@
+use native.Mathlib.Omega.{arith}
+use Rattle.deck.proofs.SoundLaws.{limited}
+use Rattle.atoms.proofs.LargeLaws.{quiet-deltas}
+use Rattle.atoms.proofs.large.note_counted.Goals as goal
+
+pub returns-then-not-delta : goal.returns-then-not-delta
+returns-then-not-delta c =
+    quiet-deltas _ _ _ c.requires.delta_value c.if-not-delta.true _
+
+pub overflow_add-concept : goal.overflow_add-concept
+overflow_add-concept c =
+    omega (arith, c.requires.concept_bound, (limited _ c.requires.accepted).concepts)
+
+pub note_deltas-requires : goal.note_deltas-requires
+note_deltas-requires c =
+    record { accepted = c.requires.accepted; concept_bound = c.requires.concept_bound; concept_in_bounds = omega (arith, c.fill_deltas.auto.table, c.requires.concept_in_bounds); deltas_to = c.fill_deltas.ensures }

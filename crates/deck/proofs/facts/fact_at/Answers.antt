@@ -1,0 +1,20 @@
+use Rattle.deck.proofs.ReadLaws.{fact-place, fact-read}
+use Rattle.deck.proofs.AcceptedLaws.{framed}
+use native.Mathlib.Omega.{arith}
+use Rattle.deck.proofs.facts.fact_at.Goals as goal
+
+pub part_word-requires : goal.part_word-requires
+part_word-requires c =
+    record { framed = framed _ c.requires.accepted; p_bound = omega arith; k_bound = fact-place _ c.requires.accepted _ c.requires.fact_bound; f_bound = omega arith }
+
+pub part_word-requires-2 : goal.part_word-requires-2
+part_word-requires-2 c =
+    record { framed = framed _ c.requires.accepted; p_bound = omega arith; k_bound = fact-place _ c.requires.accepted _ c.requires.fact_bound; f_bound = omega arith }
+
+pub part_word-requires-3 : goal.part_word-requires-3
+part_word-requires-3 c =
+    record { framed = framed _ c.requires.accepted; p_bound = omega arith; k_bound = fact-place _ c.requires.accepted _ c.requires.fact_bound; f_bound = omega arith }
+
+pub returns : goal.returns
+returns c =
+    rw (c.part_word.ensures, c.part_word-2.ensures, c.part_word-3.ensures) (fact-read _ c.requires.accepted c.args.fact c.requires.fact_bound)
