@@ -3,5 +3,6 @@
 #![tactic(auto)]
 
 pub mod decks;
+pub mod input;
 pub mod numbers;
 pub mod words;

@@ -11,68 +11,68 @@ ghost use Rattle.deck.specs.Content.{IsAccepted};
 
 use atoms::floor::is_universal_antecedent;
 use cases::decks::Read;
+use cases::input::read_full;
 use cases::words::part;
 use deck::DeckAnswer;
 use deck::concepts::concept_count;
 use deck::numbers::ConceptId;
-use libc::STDOUT_FILENO;
+use std::io;
 
-fn print_letter(universal: bool) {
+fn print_letter(rt: &impl Print, universal: bool) -> io::Result<()> {
     if universal {
-        io::write_all(STDOUT_FILENO, b"t");
+        rt.write_all(b"t")
     } else {
-        io::write_all(STDOUT_FILENO, b"f");
+        rt.write_all(b"f")
     }
 }
 
 // Asks each concept.
-fn print_letters(deck: &[u8])
+fn print_letters(rt: &impl Print, deck: &[u8]) -> io::Result<()>
     requires { IsAccepted deck.now }
 {
-    io::write_all(STDOUT_FILENO, b" ");
+    rt.write_all(b" ")?;
     let count = concept_count(deck);
     let mut concept = 0;
     while concept < count {
-        print_letter(is_universal_antecedent(deck, ConceptId(concept)));
+        print_letter(rt, is_universal_antecedent(deck, ConceptId(concept)))?;
         concept += 1;
     }
+    Ok(())
 }
 
-fn print_answer(deck: &[u8]) {
+fn print_answer(rt: &impl Print, deck: &[u8]) -> io::Result<()> {
     let answer = deck::check_deck(deck);
     match answer {
-        DeckAnswer::Accepted => print_letters(deck),
-        DeckAnswer::Refused(_) => {
-            io::write_all(STDOUT_FILENO, b" refused");
-        }
+        DeckAnswer::Accepted => print_letters(rt, deck),
+        DeckAnswer::Refused(_) => rt.write_all(b" refused"),
     }
 }
 
 // Asks about the deck at word `at` of the data. Answers the word after it, or 0 if it is malformed.
-fn ask_one(data: &[u8], at: usize, room: &mut [u8]) -> usize {
+fn ask_one(rt: &impl Print, data: &[u8], at: usize, room: &mut [u8]) -> io::Result<usize> {
     let read = cases::decks::deck_at(data, at, room);
     let Read::Found(case) = read else {
-        return 0;
+        return Ok(0);
     };
-    io::write_all(STDOUT_FILENO, part(data, case.name, case.name_end));
-    print_answer(part(room, 0, case.length));
-    io::write_all(STDOUT_FILENO, b"\n");
-    case.next
+    rt.write_all(part(data, case.name, case.name_end))?;
+    print_answer(rt, part(room, 0, case.length))?;
+    rt.write_all(b"\n")?;
+    Ok(case.next)
 }
 
 // Asks about all decks of the data, and answers how many there are.
-fn ask_all(data: &[u8], room: &mut [u8]) -> u64 {
+fn ask_all(rt: &impl Print, data: &[u8], room: &mut [u8]) -> io::Result<u64> {
     let mut decks = 0;
     let mut at = 0;
     while at < data.len() / 4 {
-        let next = ask_one(data, at, room);
+        let next = ask_one(rt, data, at, room)?;
         if next <= at {
-            return decks;
+            return Ok(decks);
         }
         at = next;
         decks += 1;
     }
-    decks
+    Ok(decks)
 }
 
 // Room for the whole input.
@@ -89,11 +89,10 @@ fn deck_room() -> [u8; 300000]
     [0; 300000]
 }
 
-fn main() {
+fn main(rt: HostRuntime) -> io::Result<()> {
     let mut data = data_room();
-    let n = io::read_full(0, &mut data);
+    let n = read_full(&mut rt.stdin(), &mut data)?;
     let mut room = deck_room();
-    let decks = ask_all(&data[..n], &mut room);
-    io::print_decimal(STDOUT_FILENO, decks);
-    io::write_all(STDOUT_FILENO, b" decks\n");
+    let decks = ask_all(&rt, &data[..n], &mut room)?;
+    println!(rt; "{decks} decks")
 }

@@ -9,57 +9,58 @@
 ghost use Rattle.std.specs.Prelude.{◌≡◌, length};
 
 use cases::decks::Read;
+use cases::input::read_full;
 use cases::words::part;
 use deck::DeckAnswer;
 use deck::refusal::{NO_WORD, Refusal, refusal_number, refusal_word};
-use libc::STDOUT_FILENO;
+use std::io;
 
-fn print_number(number: u32) {
-    io::write_all(STDOUT_FILENO, b" ");
-    io::print_decimal(STDOUT_FILENO, number as u64);
+fn print_number(rt: &impl Print, number: u32) -> io::Result<()> {
+    print!(rt; " {number}")
 }
 
-fn print_refusal(refusal: Refusal) {
-    print_number(refusal_number(refusal));
+fn print_refusal(rt: &impl Print, refusal: Refusal) -> io::Result<()> {
+    print_number(rt, refusal_number(refusal))?;
     let word = refusal_word(refusal);
     if word != NO_WORD {
-        print_number(word);
+        print_number(rt, word)?;
     }
+    Ok(())
 }
 
-fn print_answer(answer: DeckAnswer) {
+fn print_answer(rt: &impl Print, answer: DeckAnswer) -> io::Result<()> {
     match answer {
-        DeckAnswer::Accepted => print_number(0),
-        DeckAnswer::Refused(refusal) => print_refusal(refusal),
+        DeckAnswer::Accepted => print_number(rt, 0),
+        DeckAnswer::Refused(refusal) => print_refusal(rt, refusal),
     }
 }
 
 // Checks the deck at word `at` of the data. Answers the word after it, or 0 if it is malformed.
-fn check_one(data: &[u8], at: usize, room: &mut [u8]) -> usize {
+fn check_one(rt: &impl Print, data: &[u8], at: usize, room: &mut [u8]) -> io::Result<usize> {
     let read = cases::decks::deck_at(data, at, room);
     let Read::Found(case) = read else {
-        return 0;
+        return Ok(0);
     };
     let answer = deck::check_deck(part(room, 0, case.length));
-    io::write_all(STDOUT_FILENO, part(data, case.name, case.name_end));
-    print_answer(answer);
-    io::write_all(STDOUT_FILENO, b"\n");
-    case.next
+    rt.write_all(part(data, case.name, case.name_end))?;
+    print_answer(rt, answer)?;
+    rt.write_all(b"\n")?;
+    Ok(case.next)
 }
 
 // Checks all decks of the data, and answers how many there are.
-fn check_all(data: &[u8], room: &mut [u8]) -> u64 {
+fn check_all(rt: &impl Print, data: &[u8], room: &mut [u8]) -> io::Result<u64> {
     let mut decks = 0;
     let mut at = 0;
     while at < data.len() / 4 {
-        let next = check_one(data, at, room);
+        let next = check_one(rt, data, at, room)?;
         if next <= at {
-            return decks;
+            return Ok(decks);
         }
         at = next;
         decks += 1;
     }
-    decks
+    Ok(decks)
 }
 
 // Room for the whole input.
@@ -76,11 +77,10 @@ fn deck_room() -> [u8; 2000000]
     [0; 2000000]
 }
 
-fn main() {
+fn main(rt: HostRuntime) -> io::Result<()> {
     let mut data = data_room();
-    let n = io::read_full(0, &mut data);
+    let n = read_full(&mut rt.stdin(), &mut data)?;
     let mut room = deck_room();
-    let decks = check_all(&data[..n], &mut room);
-    io::print_decimal(STDOUT_FILENO, decks);
-    io::write_all(STDOUT_FILENO, b" decks\n");
+    let decks = check_all(&rt, &data[..n], &mut room)?;
+    println!(rt; "{decks} decks")
 }

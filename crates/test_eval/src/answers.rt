@@ -7,7 +7,7 @@ use deck::numbers::{ConceptId, Element};
 use deck::refusal::{NO_WORD, Refusal, refusal_number, refusal_word};
 use eval::entry::{AxiomAnswer, ConceptAnswer};
 use eval::judgement::Judgement;
-use libc::STDOUT_FILENO;
+use std::io;
 
 // The numbers from `first` on, `count` of them.
 #[derive(Clone, Copy)]
@@ -28,13 +28,13 @@ fn span_at(data: &[u8], at: usize) -> Span {
     }
 }
 
-fn print_number(n: u32) {
-    io::print_decimal(STDOUT_FILENO, n as u64);
+fn print_number(rt: &impl Print, n: u32) -> io::Result<()> {
+    rt.print(n)
 }
 
-fn print_byte(b: u8) {
+fn print_byte(rt: &impl Print, b: u8) -> io::Result<()> {
     let bytes = [b];
-    io::write_all(STDOUT_FILENO, &bytes);
+    rt.write_all(&bytes)
 }
 
 fn digit(tag: u32) -> u8 {
@@ -47,50 +47,52 @@ fn digit(tag: u32) -> u8 {
     }
 }
 
-fn print_refusal(refusal: Refusal) {
-    io::write_all(STDOUT_FILENO, b"refused ");
-    print_number(refusal_number(refusal));
+fn print_refusal(rt: &impl Print, refusal: Refusal) -> io::Result<()> {
+    rt.write_all(b"refused ")?;
+    print_number(rt, refusal_number(refusal))?;
     let word = refusal_word(refusal);
     if word != NO_WORD {
-        print_byte(b' ');
-        print_number(word);
+        print_byte(rt, b' ')?;
+        print_number(rt, word)?;
     }
+    Ok(())
 }
 
-fn print_judgement(judgement: Judgement) {
+fn print_judgement(rt: &impl Print, judgement: Judgement) -> io::Result<()> {
     match judgement {
-        Judgement::False => print_byte(b'f'),
-        Judgement::True => print_byte(b't'),
-        Judgement::Unresolved(tag) => print_byte(digit(tag)),
+        Judgement::False => print_byte(rt, b'f'),
+        Judgement::True => print_byte(rt, b't'),
+        Judgement::Unresolved(tag) => print_byte(rt, digit(tag)),
     }
 }
 
-fn print_concept(answer: ConceptAnswer) {
+fn print_concept(rt: &impl Print, answer: ConceptAnswer) -> io::Result<()> {
     match answer {
-        ConceptAnswer::Refused(refusal) => print_refusal(refusal),
-        ConceptAnswer::Judged(judgement) => print_judgement(judgement),
+        ConceptAnswer::Refused(refusal) => print_refusal(rt, refusal),
+        ConceptAnswer::Judged(judgement) => print_judgement(rt, judgement),
     }
 }
 
-fn print_words(words: [u32; 4]) {
-    print_number(words[0]);
-    print_byte(b' ');
-    print_number(words[1]);
-    print_byte(b' ');
-    print_number(words[2]);
-    print_byte(b' ');
-    print_number(words[3]);
+fn print_words(rt: &impl Print, words: [u32; 4]) -> io::Result<()> {
+    print_number(rt, words[0])?;
+    print_byte(rt, b' ')?;
+    print_number(rt, words[1])?;
+    print_byte(rt, b' ')?;
+    print_number(rt, words[2])?;
+    print_byte(rt, b' ')?;
+    print_number(rt, words[3])
 }
 
-fn print_axiom(answer: AxiomAnswer) {
+fn print_axiom(rt: &impl Print, answer: AxiomAnswer) -> io::Result<()> {
     match answer {
-        AxiomAnswer::Refused(refusal) => print_refusal(refusal),
-        AxiomAnswer::Checked(verdict) => print_words(eval::verdict::verdict_words(verdict)),
+        AxiomAnswer::Refused(refusal) => print_refusal(rt, refusal),
+        AxiomAnswer::Checked(verdict) => print_words(rt, eval::verdict::verdict_words(verdict)),
     }
 }
 
 // Asks one concept at each element of the span.
 fn concept_row(
+    rt: &impl Print,
     deck: &[u8],
     labels: &[u64],
     elements: u32,
@@ -98,7 +100,7 @@ fn concept_row(
     edge_count: u32,
     concept: u32,
     asked: Span,
-) {
+) -> io::Result<()> {
     let mut element = asked.first;
     let mut left = asked.count;
     while left > 0 {
@@ -111,14 +113,16 @@ fn concept_row(
             ConceptId(concept),
             Element(element),
         );
-        print_concept(answer);
+        print_concept(rt, answer)?;
         element = std::num::wrapping_add_u32(element, 1);
         left -= 1;
     }
+    Ok(())
 }
 
 // Asks each concept of the span at each element of the other.
 fn concept_rows(
+    rt: &impl Print,
     deck: &[u8],
     labels: &[u64],
     elements: u32,
@@ -126,43 +130,48 @@ fn concept_rows(
     edge_count: u32,
     concepts: Span,
     asked: Span,
-) {
+) -> io::Result<()> {
     let mut concept = concepts.first;
     let mut left = concepts.count;
     while left > 0 {
-        print_byte(b' ');
-        concept_row(deck, labels, elements, edges, edge_count, concept, asked);
+        print_byte(rt, b' ')?;
+        concept_row(
+            rt, deck, labels, elements, edges, edge_count, concept, asked,
+        )?;
         concept = std::num::wrapping_add_u32(concept, 1);
         left -= 1;
     }
-    print_byte(b'\n');
+    print_byte(rt, b'\n')
 }
 
 // Asks each axiom of the span.
 fn axiom_rows(
+    rt: &impl Print,
     deck: &[u8],
     labels: &[u64],
     elements: u32,
     edges: &[[u32; 3]],
     edge_count: u32,
     axioms: Span,
-) {
+) -> io::Result<()> {
     let mut axiom = axioms.first;
     let mut left = axioms.count;
     while left > 0 {
-        print_number(axiom);
-        io::write_all(STDOUT_FILENO, b": ");
+        print_number(rt, axiom)?;
+        rt.write_all(b": ")?;
         let answer = eval::entry::check_axiom_in(deck, labels, elements, edges, edge_count, axiom);
-        print_axiom(answer);
-        print_byte(b'\n');
+        print_axiom(rt, answer)?;
+        print_byte(rt, b'\n')?;
         axiom = std::num::wrapping_add_u32(axiom, 1);
         left -= 1;
     }
+    Ok(())
 }
 
 // Asks what stands at place `at` of the data: first concept and count, first element and count,
 // first axiom and count. Answers the place after it.
 pub fn answer(
+    rt: &impl Print,
     data: &[u8],
     at: usize,
     deck: &[u8],
@@ -170,11 +179,13 @@ pub fn answer(
     elements: u32,
     edges: &[[u32; 3]],
     edge_count: u32,
-) -> usize {
+) -> io::Result<usize> {
     let concepts = span_at(data, at);
     let asked = span_at(data, concepts.next);
     let axioms = span_at(data, asked.next);
-    concept_rows(deck, labels, elements, edges, edge_count, concepts, asked);
-    axiom_rows(deck, labels, elements, edges, edge_count, axioms);
-    axioms.next
+    concept_rows(
+        rt, deck, labels, elements, edges, edge_count, concepts, asked,
+    )?;
+    axiom_rows(rt, deck, labels, elements, edges, edge_count, axioms)?;
+    Ok(axioms.next)
 }

@@ -13,10 +13,11 @@ mod lent;
 
 ghost use Rattle.std.specs.Prelude.{◌≡◌, ◌≤◌, length};
 
+use cases::input::read_full;
 use cases::numbers::number_at;
 use cases::words::part;
 use lent::Case;
-use libc::STDOUT_FILENO;
+use std::io;
 
 fn first_labels(labels: &[u64], count: usize) -> &[u64]
     requires { count ≤ length labels.now }
@@ -32,17 +33,25 @@ fn first_edges(edges: &[[u32; 3]], count: usize) -> &[[u32; 3]]
 
 // Asks what the data say of an expanded case. Answers the place after it, or 0 if there is too
 // little room for the case.
-fn ask(data: &[u8], case: Case, deck: &[u8], labels: &[u64], edges: &[[u32; 3]]) -> usize {
+fn ask(
+    rt: &impl Print,
+    data: &[u8],
+    case: Case,
+    deck: &[u8],
+    labels: &[u64],
+    edges: &[[u32; 3]],
+) -> io::Result<usize> {
     if case.deck > deck.len() {
-        return 0;
+        return Ok(0);
     }
     if case.labels > labels.len() {
-        return 0;
+        return Ok(0);
     }
     if case.edges > edges.len() {
-        return 0;
+        return Ok(0);
     }
     answers::answer(
+        rt,
         data,
         case.next,
         part(deck, 0, case.deck),
@@ -54,46 +63,53 @@ fn ask(data: &[u8], case: Case, deck: &[u8], labels: &[u64], edges: &[[u32; 3]])
 }
 
 // Prints the name at place `at` of the data. Answers the place after it, or 0 if it is malformed.
-fn print_name(data: &[u8], at: usize) -> usize {
+fn print_name(rt: &impl Print, data: &[u8], at: usize) -> io::Result<usize> {
     let name = number_at(data, at);
     let start = name.next;
     if start > data.len() {
-        return 0;
+        return Ok(0);
     }
     let end = start + name.value as usize;
-    io::write_all(STDOUT_FILENO, part(data, start, end));
-    end
+    rt.write_all(part(data, start, end))?;
+    Ok(end)
 }
 
 // Runs the case at place `at` of the data. Answers the place after it, or 0 if it is malformed.
 fn run_one(
+    rt: &impl Print,
     data: &[u8],
     at: usize,
     deck: &mut [u8],
     labels: &mut [u64],
     edges: &mut [[u32; 3]],
-) -> usize {
-    let end = print_name(data, at);
+) -> io::Result<usize> {
+    let end = print_name(rt, data, at)?;
     if end <= at {
-        return 0;
+        return Ok(0);
     }
     let case = lent::expand(data, end, deck, labels, edges);
-    ask(data, case, deck, labels, edges)
+    ask(rt, data, case, deck, labels, edges)
 }
 
 // Runs all cases of the data, and answers how many there are.
-fn run_all(data: &[u8], deck: &mut [u8], labels: &mut [u64], edges: &mut [[u32; 3]]) -> u64 {
+fn run_all(
+    rt: &impl Print,
+    data: &[u8],
+    deck: &mut [u8],
+    labels: &mut [u64],
+    edges: &mut [[u32; 3]],
+) -> io::Result<u64> {
     let mut cases = 0;
     let mut at = 0;
     while at < data.len() {
-        let next = run_one(data, at, deck, labels, edges);
+        let next = run_one(rt, data, at, deck, labels, edges)?;
         if next <= at {
-            return cases;
+            return Ok(cases);
         }
         at = next;
         cases += 1;
     }
-    cases
+    Ok(cases)
 }
 
 // Room for the whole input.
@@ -124,13 +140,12 @@ fn edge_room() -> [[u32; 3]; 64]
     [none; 64]
 }
 
-fn main() {
+fn main(rt: HostRuntime) -> io::Result<()> {
     let mut data = data_room();
-    let n = io::read_full(0, &mut data);
+    let n = read_full(&mut rt.stdin(), &mut data)?;
     let mut deck = deck_room();
     let mut labels = label_room();
     let mut edges = edge_room();
-    let cases = run_all(&data[..n], &mut deck, &mut labels, &mut edges);
-    io::print_decimal(STDOUT_FILENO, cases);
-    io::write_all(STDOUT_FILENO, b" cases\n");
+    let cases = run_all(&rt, &data[..n], &mut deck, &mut labels, &mut edges)?;
+    println!(rt; "{cases} cases")
 }

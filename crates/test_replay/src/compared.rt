@@ -3,7 +3,7 @@ use cases::words::{after, word_or_0};
 use deck::numbers::{ConceptId, Element};
 use eval::entry::{ConceptAnswer, eval_concept_in};
 use eval::judgement::Judgement;
-use libc::STDOUT_FILENO;
+use std::io;
 
 // How far the data was compared: the next word of it, how many words were, and how many of them differed.
 #[derive(Clone, Copy)]
@@ -17,14 +17,8 @@ pub fn one_more(n: u64) -> u64 {
     std::num::wrapping_add_u64(n, 1)
 }
 
-fn print_difference(at: usize, wanted: u32, found: u32) {
-    io::write_all(STDOUT_FILENO, b"word ");
-    io::print_decimal(STDOUT_FILENO, at as u64);
-    io::write_all(STDOUT_FILENO, b": expected ");
-    io::print_decimal(STDOUT_FILENO, wanted as u64);
-    io::write_all(STDOUT_FILENO, b", found ");
-    io::print_decimal(STDOUT_FILENO, found as u64);
-    io::write_all(STDOUT_FILENO, b"\n");
+fn print_difference(rt: &impl Print, at: usize, wanted: u32, found: u32) -> io::Result<()> {
+    println!(rt; "word {at}: expected {wanted}, found {found}")
 }
 
 // The same, with one difference more, at another place.
@@ -36,72 +30,90 @@ pub fn differing(c: Compared, at: usize) -> Compared {
     }
 }
 
-pub fn expect(data: &[u8], c: Compared, found: u32) -> Compared {
+pub fn expect(rt: &impl Print, data: &[u8], c: Compared, found: u32) -> io::Result<Compared> {
     let wanted = word_or_0(data, c.at);
     let words = one_more(c.words);
     let mut differences = c.differences;
     if wanted != found {
-        print_difference(c.at, wanted, found);
+        print_difference(rt, c.at, wanted, found)?;
         differences = one_more(differences);
     }
-    Compared {
+    Ok(Compared {
         at: after(c.at, 1),
         words: words,
         differences: differences,
-    }
+    })
 }
 
 // A word of labels: its low half, then its high half.
-fn expect_label(data: &[u8], c: Compared, label: u64) -> Compared {
-    let low = expect(data, c, (label % 4294967296) as u32);
-    expect(data, low, (label / 4294967296) as u32)
+fn expect_label(rt: &impl Print, data: &[u8], c: Compared, label: u64) -> io::Result<Compared> {
+    let low = expect(rt, data, c, (label % 4294967296) as u32)?;
+    expect(rt, data, low, (label / 4294967296) as u32)
 }
 
 // The first `count` of a buffer, or all there are.
 
-pub fn expect_labels(data: &[u8], c: Compared, labels: &[u64], count: u32) -> Compared {
+pub fn expect_labels(
+    rt: &impl Print,
+    data: &[u8],
+    c: Compared,
+    labels: &[u64],
+    count: u32,
+) -> io::Result<Compared> {
     let mut seen = c;
     let mut i = 0;
     while i < count as usize {
         if i >= labels.len() {
-            return seen;
+            return Ok(seen);
         }
-        seen = expect_label(data, seen, labels[i]);
+        seen = expect_label(rt, data, seen, labels[i])?;
         i += 1;
     }
-    seen
+    Ok(seen)
 }
 
-fn expect_edge(data: &[u8], c: Compared, edge: [u32; 3]) -> Compared {
-    let role = expect(data, c, edge[0]);
-    let from = expect(data, role, edge[1]);
-    expect(data, from, edge[2])
+fn expect_edge(rt: &impl Print, data: &[u8], c: Compared, edge: [u32; 3]) -> io::Result<Compared> {
+    let role = expect(rt, data, c, edge[0])?;
+    let from = expect(rt, data, role, edge[1])?;
+    expect(rt, data, from, edge[2])
 }
 
-pub fn expect_edges(data: &[u8], c: Compared, edges: &[[u32; 3]], count: u32) -> Compared {
+pub fn expect_edges(
+    rt: &impl Print,
+    data: &[u8],
+    c: Compared,
+    edges: &[[u32; 3]],
+    count: u32,
+) -> io::Result<Compared> {
     let mut seen = c;
     let mut i = 0;
     while i < count as usize {
         if i >= edges.len() {
-            return seen;
+            return Ok(seen);
         }
-        seen = expect_edge(data, seen, edges[i]);
+        seen = expect_edge(rt, data, seen, edges[i])?;
         i += 1;
     }
-    seen
+    Ok(seen)
 }
 
-pub fn expect_words(data: &[u8], c: Compared, words: &[u32], count: u32) -> Compared {
+pub fn expect_words(
+    rt: &impl Print,
+    data: &[u8],
+    c: Compared,
+    words: &[u32],
+    count: u32,
+) -> io::Result<Compared> {
     let mut seen = c;
     let mut i = 0;
     while i < count as usize {
         if i >= words.len() {
-            return seen;
+            return Ok(seen);
         }
-        seen = expect(data, seen, words[i]);
+        seen = expect(rt, data, seen, words[i])?;
         i += 1;
     }
-    seen
+    Ok(seen)
 }
 
 // 0 false, 1 true, 2 + tag unresolved; a refusal is above these.
@@ -117,6 +129,7 @@ fn judgement_word(answer: ConceptAnswer) -> u32 {
 }
 
 fn expect_concept(
+    rt: &impl Print,
     data: &[u8],
     c: Compared,
     deck: &[u8],
@@ -125,7 +138,7 @@ fn expect_concept(
     elements: u32,
     edge_count: u32,
     concept: u32,
-) -> Compared {
+) -> io::Result<Compared> {
     let mut seen = c;
     let mut element = 0;
     while element < elements {
@@ -138,14 +151,15 @@ fn expect_concept(
             ConceptId(concept),
             Element(element),
         );
-        seen = expect(data, seen, judgement_word(answer));
+        seen = expect(rt, data, seen, judgement_word(answer))?;
         element += 1;
     }
-    seen
+    Ok(seen)
 }
 
 // Every concept at every element.
 pub fn expect_concepts(
+    rt: &impl Print,
     data: &[u8],
     c: Compared,
     deck: &[u8],
@@ -154,14 +168,14 @@ pub fn expect_concepts(
     elements: u32,
     edge_count: u32,
     concepts: u32,
-) -> Compared {
+) -> io::Result<Compared> {
     let mut seen = c;
     let mut concept = 0;
     while concept < concepts {
         seen = expect_concept(
-            data, seen, deck, labels, edges, elements, edge_count, concept,
-        );
+            rt, data, seen, deck, labels, edges, elements, edge_count, concept,
+        )?;
         concept += 1;
     }
-    seen
+    Ok(seen)
 }

@@ -12,12 +12,13 @@ mod data;
 ghost use Rattle.std.specs.Prelude.{◌≡◌, length};
 
 use build::tally::Tally;
+use cases::input::read_full;
 use cases::words::{MOST, after, part};
 use compared::{Compared, differing, expect};
 use data::{ASKED, Asked};
-use libc::STDOUT_FILENO;
 use model::outcome::Outcome;
 use model::run::RunAnswer;
+use std::io;
 
 fn outcome_number(outcome: Outcome) -> u32 {
     match outcome {
@@ -27,11 +28,17 @@ fn outcome_number(outcome: Outcome) -> u32 {
     }
 }
 
-fn expect_tally(data: &[u8], c: Compared, outcome: Outcome, t: Tally) -> Compared {
-    let outcomes = expect(data, c, outcome_number(outcome));
-    let elements = expect(data, outcomes, t.elements);
-    let edges = expect(data, elements, t.edges);
-    expect(data, edges, t.reasons)
+fn expect_tally(
+    rt: &impl Print,
+    data: &[u8],
+    c: Compared,
+    outcome: Outcome,
+    t: Tally,
+) -> io::Result<Compared> {
+    let outcomes = expect(rt, data, c, outcome_number(outcome))?;
+    let elements = expect(rt, data, outcomes, t.elements)?;
+    let edges = expect(rt, data, elements, t.edges)?;
+    expect(rt, data, edges, t.reasons)
 }
 
 // The words of the log that the reasons take.
@@ -44,6 +51,7 @@ fn log_words(reasons: u32) -> u32 {
 
 // What a run left in the buffers.
 fn expect_left(
+    rt: &impl Print,
     data: &[u8],
     c: Compared,
     asked: Asked,
@@ -53,12 +61,13 @@ fn expect_left(
     edges: &[[u32; 3]],
     log: &[u32],
     verdicts: &[u32],
-) -> Compared {
-    let one = compared::expect_labels(data, c, labels, asked.label_words);
-    let two = compared::expect_edges(data, one, edges, t.edges);
-    let three = compared::expect_words(data, two, log, log_words(t.reasons));
-    let four = compared::expect_words(data, three, verdicts, asked.verdict_words);
+) -> io::Result<Compared> {
+    let one = compared::expect_labels(rt, data, c, labels, asked.label_words)?;
+    let two = compared::expect_edges(rt, data, one, edges, t.edges)?;
+    let three = compared::expect_words(rt, data, two, log, log_words(t.reasons))?;
+    let four = compared::expect_words(rt, data, three, verdicts, asked.verdict_words)?;
     compared::expect_concepts(
+        rt,
         data,
         four,
         deck,
@@ -72,6 +81,7 @@ fn expect_left(
 
 // A run that is refused differs in its first word.
 fn expect_run(
+    rt: &impl Print,
     data: &[u8],
     c: Compared,
     asked: Asked,
@@ -80,16 +90,21 @@ fn expect_run(
     edges: &mut [[u32; 3]],
     log: &mut [u32],
     verdicts: &mut [u32],
-) -> Compared {
+) -> io::Result<Compared> {
     let bounds = asked.bounds;
     let last = asked.last_phase;
     match model::run::run(deck, bounds, last, labels, edges, log, verdicts) {
         RunAnswer::Refused(refusal) => {
-            expect(data, c, 1000 + deck::refusal::refusal_number(refusal) % 100)
+            expect(
+                rt,
+                data,
+                c,
+                1000 + deck::refusal::refusal_number(refusal) % 100,
+            )
         }
         RunAnswer::Done(outcome, t) => {
-            let told = expect_tally(data, c, outcome, t);
-            expect_left(data, told, asked, t, deck, labels, edges, log, verdicts)
+            let told = expect_tally(rt, data, c, outcome, t)?;
+            expect_left(rt, data, told, asked, t, deck, labels, edges, log, verdicts)
         }
     }
 }
@@ -97,23 +112,24 @@ fn expect_run(
 // Runs the case at word `at` of the data, which `c` has come to. A case that does not end where it says counts as a
 // difference, and what is compared next is the case after it.
 fn replay_one(
+    rt: &impl Print,
     data: &[u8],
     c: Compared,
     labels: &mut [u64],
     edges: &mut [[u32; 3]],
     log: &mut [u32],
     verdicts: &mut [u32],
-) -> Compared {
+) -> io::Result<Compared> {
     let at = c.at;
     let asked = data::asked_at(data, at);
     let end = after(at, asked.words as usize);
     if at > MOST {
-        return differing(c, end);
+        return Ok(differing(c, end));
     }
     let deck_start = (at + ASKED) * 4;
     let deck_end = deck_start + asked.deck_words as usize * 4;
     if deck_end > data.len() {
-        return differing(c, end);
+        return Ok(differing(c, end));
     }
     let begun = Compared {
         at: deck_end / 4,
@@ -121,27 +137,27 @@ fn replay_one(
         differences: c.differences,
     };
     let deck = part(data, deck_start, deck_end);
-    let done = expect_run(data, begun, asked, deck, labels, edges, log, verdicts);
+    let done = expect_run(rt, data, begun, asked, deck, labels, edges, log, verdicts)?;
     if done.at == end {
-        return done;
+        return Ok(done);
     }
-    differing(done, end)
+    Ok(differing(done, end))
 }
 
-fn print_count(name: &[u8], n: u64) {
-    io::write_all(STDOUT_FILENO, name);
-    io::print_decimal(STDOUT_FILENO, n);
-    io::write_all(STDOUT_FILENO, b"\n");
+fn print_count(rt: &impl Print, name: &[u8], n: u64) -> io::Result<()> {
+    rt.write_all(name)?;
+    println!(rt; "{n}")
 }
 
 // Runs all cases of the data, and prints how many there are, how many words were compared, and how many differed.
 fn replay_all(
+    rt: &impl Print,
     data: &[u8],
     labels: &mut [u64],
     edges: &mut [[u32; 3]],
     log: &mut [u32],
     verdicts: &mut [u32],
-) {
+) -> io::Result<()> {
     let mut cases = 0;
     let mut c = Compared {
         at: 0,
@@ -150,18 +166,17 @@ fn replay_all(
     };
     let mut at = 0;
     while at < data.len() / 4 {
-        c = replay_one(data, c, labels, edges, log, verdicts);
+        c = replay_one(rt, data, c, labels, edges, log, verdicts)?;
         let next = c.at;
         if next <= at {
-            io::write_all(STDOUT_FILENO, b"malformed\n");
-            return;
+            return rt.write_all(b"malformed\n");
         }
         at = next;
         cases = compared::one_more(cases);
     }
-    print_count(b"cases ", cases);
-    print_count(b"words compared ", c.words);
-    print_count(b"differences ", c.differences);
+    print_count(rt, b"cases ", cases)?;
+    print_count(rt, b"words compared ", c.words)?;
+    print_count(rt, b"differences ", c.differences)
 }
 
 fn data_room() -> [u8; 400000]
@@ -190,12 +205,19 @@ fn word_room() -> [u32; 300]
     [0; 300]
 }
 
-fn main() {
+fn main(rt: HostRuntime) -> io::Result<()> {
     let mut data = data_room();
-    let n = io::read_full(0, &mut data);
+    let n = read_full(&mut rt.stdin(), &mut data)?;
     let mut labels = label_room();
     let mut edges = edge_room();
     let mut log = word_room();
     let mut verdicts = word_room();
-    replay_all(&data[..n], &mut labels, &mut edges, &mut log, &mut verdicts);
+    replay_all(
+        &rt,
+        &data[..n],
+        &mut labels,
+        &mut edges,
+        &mut log,
+        &mut verdicts,
+    )
 }

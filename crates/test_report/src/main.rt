@@ -12,8 +12,9 @@
 ghost use Rattle.std.specs.Prelude.{◌≡◌, length};
 
 use cases::decks::Read;
+use cases::input::read_full;
 use cases::words::part;
-use libc::STDOUT_FILENO;
+use std::io;
 
 // The mark at place `at`. A text has bytes below 128 only.
 fn mark(at: usize) -> u8 {
@@ -93,54 +94,66 @@ fn again_in(deck: &[u8], room: &mut [u8], text: &[u8]) -> u64 {
     )
 }
 
-fn print_faults(faults: u64) {
+fn print_faults(rt: &impl Print, faults: u64) -> io::Result<()> {
     if faults == 0 {
-        io::write_all(STDOUT_FILENO, b"untouched\n");
+        rt.write_all(b"untouched\n")
     } else {
-        io::print_decimal(STDOUT_FILENO, faults);
-        io::write_all(STDOUT_FILENO, b" faults\n");
+        println!(rt; "{faults} faults")
     }
 }
 
 // Prints the text of a deck, and what is wrong with it.
-fn print_text(deck: &[u8], wide: &mut [u8], tight: &mut [u8]) {
+fn print_text(rt: &impl Print, deck: &[u8], wide: &mut [u8], tight: &mut [u8]) -> io::Result<()> {
     let most = wide.len();
     let n = ask(deck, wide, most);
     let past = strays(wide, n);
     let text = part(wide, 0, n);
-    io::write_all(STDOUT_FILENO, text);
+    rt.write_all(text)?;
     let again = again_in(deck, tight, text);
     let empty = too_short(deck, tight, 0);
     let short = one_short(deck, tight, n);
-    print_faults(add(add(past, again), add(empty, short)));
+    print_faults(rt, add(add(past, again), add(empty, short)))
 }
 
 // Prints the name and the text of the deck at word `at` of the data. Answers the word after it, or 0 if
 // it is malformed.
-fn report_one(data: &[u8], at: usize, room: &mut [u8], wide: &mut [u8], tight: &mut [u8]) -> usize {
+fn report_one(
+    rt: &impl Print,
+    data: &[u8],
+    at: usize,
+    room: &mut [u8],
+    wide: &mut [u8],
+    tight: &mut [u8],
+) -> io::Result<usize> {
     let read = cases::decks::deck_at(data, at, room);
     let Read::Found(case) = read else {
-        return 0;
+        return Ok(0);
     };
-    io::write_all(STDOUT_FILENO, part(data, case.name, case.name_end));
-    io::write_all(STDOUT_FILENO, b"\n");
-    print_text(part(room, 0, case.length), wide, tight);
-    case.next
+    rt.write_all(part(data, case.name, case.name_end))?;
+    rt.write_all(b"\n")?;
+    print_text(rt, part(room, 0, case.length), wide, tight)?;
+    Ok(case.next)
 }
 
 // Goes through all decks of the data, and answers how many there are.
-fn report_all(data: &[u8], room: &mut [u8], wide: &mut [u8], tight: &mut [u8]) -> u64 {
+fn report_all(
+    rt: &impl Print,
+    data: &[u8],
+    room: &mut [u8],
+    wide: &mut [u8],
+    tight: &mut [u8],
+) -> io::Result<u64> {
     let mut cases = 0;
     let mut at = 0;
     while at < data.len() / 4 {
-        let next = report_one(data, at, room, wide, tight);
+        let next = report_one(rt, data, at, room, wide, tight)?;
         if next <= at {
-            return cases;
+            return Ok(cases);
         }
         at = next;
         cases += 1;
     }
-    cases
+    Ok(cases)
 }
 
 // Room for the whole input.
@@ -164,13 +177,12 @@ fn text_room() -> [u8; 131072]
     [0; 131072]
 }
 
-fn main() {
+fn main(rt: HostRuntime) -> io::Result<()> {
     let mut data = data_room();
-    let n = io::read_full(0, &mut data);
+    let n = read_full(&mut rt.stdin(), &mut data)?;
     let mut room = deck_room();
     let mut wide = text_room();
     let mut tight = text_room();
-    let cases = report_all(&data[..n], &mut room, &mut wide, &mut tight);
-    io::print_decimal(STDOUT_FILENO, cases);
-    io::write_all(STDOUT_FILENO, b" cases\n");
+    let cases = report_all(&rt, &data[..n], &mut room, &mut wide, &mut tight)?;
+    println!(rt; "{cases} cases")
 }

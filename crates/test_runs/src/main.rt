@@ -17,55 +17,55 @@ ghost use Rattle.std.specs.Prelude.{◌≡◌, length};
 
 use asked::Asked;
 use build::tally::Tally;
+use cases::input::read_full;
 use cases::words::{MOST, part, word_or_0};
 use deck::refusal::{NO_WORD, Refusal, refusal_number, refusal_word};
-use libc::STDOUT_FILENO;
 use model::outcome::Outcome;
 use model::run::RunAnswer;
+use std::io;
 
-fn print_number(n: u32) {
-    io::write_all(STDOUT_FILENO, b" ");
-    io::print_decimal(STDOUT_FILENO, n as u64);
+fn print_number(rt: &impl Print, n: u32) -> io::Result<()> {
+    print!(rt; " {n}")
 }
 
-fn print_outcome(outcome: Outcome) {
+fn print_outcome(rt: &impl Print, outcome: Outcome) -> io::Result<()> {
     match outcome {
-        Outcome::Confirmed => io::write_all(STDOUT_FILENO, b" confirmed"),
-        Outcome::Failed => io::write_all(STDOUT_FILENO, b" failed"),
-        Outcome::Open => io::write_all(STDOUT_FILENO, b" open"),
-    };
+        Outcome::Confirmed => rt.write_all(b" confirmed"),
+        Outcome::Failed => rt.write_all(b" failed"),
+        Outcome::Open => rt.write_all(b" open"),
+    }
 }
 
-fn print_done(outcome: Outcome, tally: Tally) {
-    print_outcome(outcome);
-    print_number(tally.elements);
-    print_number(tally.edges);
-    print_number(tally.reasons);
+fn print_done(rt: &impl Print, outcome: Outcome, tally: Tally) -> io::Result<()> {
+    print_outcome(rt, outcome)?;
+    print_number(rt, tally.elements)?;
+    print_number(rt, tally.edges)?;
+    print_number(rt, tally.reasons)
 }
 
-fn print_refusal(refusal: Refusal) {
-    io::write_all(STDOUT_FILENO, b" refused");
-    print_number(refusal_number(refusal));
+fn print_refusal(rt: &impl Print, refusal: Refusal) -> io::Result<()> {
+    rt.write_all(b" refused")?;
+    print_number(rt, refusal_number(refusal))?;
     let word = refusal_word(refusal);
     if word != NO_WORD {
-        print_number(word);
+        print_number(rt, word)?;
     }
+    Ok(())
 }
 
-fn print_answer(answer: RunAnswer) {
+fn print_answer(rt: &impl Print, answer: RunAnswer) -> io::Result<()> {
     match answer {
-        RunAnswer::Refused(refusal) => print_refusal(refusal),
-        RunAnswer::Done(outcome, tally) => print_done(outcome, tally),
+        RunAnswer::Refused(refusal) => print_refusal(rt, refusal)?,
+        RunAnswer::Done(outcome, tally) => print_done(rt, outcome, tally)?,
     }
-    io::write_all(STDOUT_FILENO, b"\n");
+    rt.write_all(b"\n")
 }
 
-fn print_stray(stray: u64) {
+fn print_stray(rt: &impl Print, stray: u64) -> io::Result<()> {
     if stray == 0 {
-        io::write_all(STDOUT_FILENO, b"untouched\n");
+        rt.write_all(b"untouched\n")
     } else {
-        io::print_decimal(STDOUT_FILENO, stray);
-        io::write_all(STDOUT_FILENO, b" words written past the end\n");
+        println!(rt; "{stray} words written past the end")
     }
 }
 
@@ -80,77 +80,90 @@ fn mark_all(labels: &mut [u64], edges: &mut [[u32; 3]], log: &mut [u32], verdict
     marks::mark_words(verdicts);
 }
 
-fn show_all(labels: &[u64], edges: &[[u32; 3]], log: &[u32], verdicts: &[u32]) {
-    let in_labels = marks::show_labels(labels);
-    let in_edges = marks::show_edges(edges);
-    let in_log = marks::show_words(b"log", log);
-    let in_verdicts = marks::show_words(b"verdicts", verdicts);
-    print_stray(add(add(in_labels, in_edges), add(in_log, in_verdicts)));
+fn show_all(
+    rt: &impl Print,
+    labels: &[u64],
+    edges: &[[u32; 3]],
+    log: &[u32],
+    verdicts: &[u32],
+) -> io::Result<()> {
+    let in_labels = marks::show_labels(rt, labels)?;
+    let in_edges = marks::show_edges(rt, edges)?;
+    let in_log = marks::show_words(rt, b"log", log)?;
+    let in_verdicts = marks::show_words(rt, b"verdicts", verdicts)?;
+    print_stray(rt, add(add(in_labels, in_edges), add(in_log, in_verdicts)))
 }
 
 // Runs a case over buffers of exactly the lengths that it asks for, and prints what comes of it.
 fn run_in(
+    rt: &impl Print,
     deck: &[u8],
     asked: Asked,
     labels: &mut [u64],
     edges: &mut [[u32; 3]],
     log: &mut [u32],
     verdicts: &mut [u32],
-) {
+) -> io::Result<()> {
     mark_all(labels, edges, log, verdicts);
     let bounds = asked.bounds;
     let last = asked.last_phase;
-    print_answer(model::run::run(deck, bounds, last, labels, edges, log, verdicts));
-    show_all(labels, edges, log, verdicts);
+    print_answer(
+        rt,
+        model::run::run(deck, bounds, last, labels, edges, log, verdicts),
+    )?;
+    show_all(rt, labels, edges, log, verdicts)
 }
 
 // Runs a case over parts of the room. Answers false if there is too little of it.
 fn run_asked(
+    rt: &impl Print,
     deck: &[u8],
     asked: Asked,
     labels: &mut [u64],
     edges: &mut [[u32; 3]],
     log: &mut [u32],
     verdicts: &mut [u32],
-) -> bool {
+) -> io::Result<bool> {
     let label_words = asked.labels;
     let edge_records = asked.edges;
     let log_words = asked.log;
     let verdict_words = asked.verdicts;
     if label_words > labels.len() {
-        return false;
+        return Ok(false);
     }
     if edge_records > edges.len() {
-        return false;
+        return Ok(false);
     }
     if log_words > log.len() {
-        return false;
+        return Ok(false);
     }
     if verdict_words > verdicts.len() {
-        return false;
+        return Ok(false);
     }
     run_in(
+        rt,
         deck,
         asked,
         &mut labels[..label_words],
         &mut edges[..edge_records],
         &mut log[..log_words],
         &mut verdicts[..verdict_words],
-    );
-    true
+    )?;
+    Ok(true)
 }
 
 // Runs the case at word `at` of the data. Answers the word after it, or 0 if it is malformed.
 fn run_one(
+    rt: &impl Print,
     data: &[u8],
     at: usize,
     labels: &mut [u64],
     edges: &mut [[u32; 3]],
     log: &mut [u32],
     verdicts: &mut [u32],
-) -> usize {
+) -> io::Result<usize> {
     if at > MOST {
-        return 0;
+        return Ok(0);
     }
     let name_length = word_or_0(data, at) as usize;
     let deck_length = word_or_0(data, at + 1) as usize;
@@ -160,41 +173,43 @@ fn run_one(
     let deck_start = (at + 10 + (name_length + 3) / 4) * 4;
     let deck_end = deck_start + deck_length;
     if name_end > data.len() || deck_end > data.len() {
-        return 0;
+        return Ok(0);
     }
-    io::write_all(STDOUT_FILENO, part(data, name_start, name_end));
+    rt.write_all(part(data, name_start, name_end))?;
     if !run_asked(
+        rt,
         part(data, deck_start, deck_end),
         asked,
         labels,
         edges,
         log,
         verdicts,
-    ) {
-        return 0;
+    )? {
+        return Ok(0);
     }
-    (deck_end + 3) / 4
+    Ok((deck_end + 3) / 4)
 }
 
 // Runs all cases of the data, and answers how many there are.
 fn run_all(
+    rt: &impl Print,
     data: &[u8],
     labels: &mut [u64],
     edges: &mut [[u32; 3]],
     log: &mut [u32],
     verdicts: &mut [u32],
-) -> u64 {
+) -> io::Result<u64> {
     let mut cases = 0;
     let mut at = 0;
     while at < data.len() / 4 {
-        let next = run_one(data, at, labels, edges, log, verdicts);
+        let next = run_one(rt, data, at, labels, edges, log, verdicts)?;
         if next <= at {
-            return cases;
+            return Ok(cases);
         }
         at = next;
         cases += 1;
     }
-    cases
+    Ok(cases)
 }
 
 // Room for the whole input.
@@ -225,14 +240,20 @@ fn word_room() -> [u32; 2000]
     [0; 2000]
 }
 
-fn main() {
+fn main(rt: HostRuntime) -> io::Result<()> {
     let mut data = data_room();
-    let n = io::read_full(0, &mut data);
+    let n = read_full(&mut rt.stdin(), &mut data)?;
     let mut labels = label_room();
     let mut edges = edge_room();
     let mut log = word_room();
     let mut verdicts = word_room();
-    let cases = run_all(&data[..n], &mut labels, &mut edges, &mut log, &mut verdicts);
-    io::print_decimal(STDOUT_FILENO, cases);
-    io::write_all(STDOUT_FILENO, b" cases\n");
+    let cases = run_all(
+        &rt,
+        &data[..n],
+        &mut labels,
+        &mut edges,
+        &mut log,
+        &mut verdicts,
+    )?;
+    println!(rt; "{cases} cases")
 }

@@ -2,7 +2,7 @@
 // run writes (tests/make_runs.py sees to that). So the words that a run wrote can be told.
 ghost use Rattle.std.specs.Prelude.{◌<◌};
 
-use libc::STDOUT_FILENO;
+use std::io;
 
 // The mark at place `at`.
 fn mark(at: usize) -> u32
@@ -53,78 +53,77 @@ struct Seen {
 }
 
 // One more word, which was `before`. Words of the front are printed.
-fn next(seen: Seen, word: u64, before: u64) -> Seen {
+fn next(rt: &impl Print, seen: Seen, word: u64, before: u64) -> io::Result<Seen> {
     if word == before {
-        return Seen {
+        return Ok(Seen {
             front: false,
             stray: seen.stray,
-        };
+        });
     }
     if seen.front {
-        io::write_all(STDOUT_FILENO, b" ");
-        io::print_decimal(STDOUT_FILENO, word);
-        return seen;
+        print!(rt; " {word}")?;
+        return Ok(seen);
     }
-    Seen {
+    Ok(Seen {
         front: false,
         stray: std::num::wrapping_add_u64(seen.stray, 1),
-    }
+    })
 }
 
 fn wide(word: u32) -> u64 {
     word as u64
 }
 
-fn next_edge(seen: Seen, edge: [u32; 3], before: [u32; 3]) -> Seen {
-    let one = next(seen, wide(edge[0]), wide(before[0]));
-    let two = next(one, wide(edge[1]), wide(before[1]));
-    next(two, wide(edge[2]), wide(before[2]))
+fn next_edge(rt: &impl Print, seen: Seen, edge: [u32; 3], before: [u32; 3]) -> io::Result<Seen> {
+    let one = next(rt, seen, wide(edge[0]), wide(before[0]))?;
+    let two = next(rt, one, wide(edge[1]), wide(before[1]))?;
+    next(rt, two, wide(edge[2]), wide(before[2]))
 }
 
 // A line is the buffer's name and its words up to the first that stands as it was marked. The
 // answer is how many after that were written.
 
-pub fn show_labels(labels: &[u64]) -> u64 {
-    io::write_all(STDOUT_FILENO, b"labels");
+pub fn show_labels(rt: &impl Print, labels: &[u64]) -> io::Result<u64> {
+    rt.write_all(b"labels")?;
     let mut seen = Seen {
         front: true,
         stray: 0,
     };
     let mut i = 0;
     while i < labels.len() {
-        seen = next(seen, labels[i], label_mark(i));
+        seen = next(rt, seen, labels[i], label_mark(i))?;
         i += 1;
     }
-    io::write_all(STDOUT_FILENO, b"\n");
-    seen.stray
+    rt.write_all(b"\n")?;
+    Ok(seen.stray)
 }
 
-pub fn show_edges(edges: &[[u32; 3]]) -> u64 {
-    io::write_all(STDOUT_FILENO, b"edges");
+pub fn show_edges(rt: &impl Print, edges: &[[u32; 3]]) -> io::Result<u64> {
+    rt.write_all(b"edges")?;
     let mut seen = Seen {
         front: true,
         stray: 0,
     };
     let mut i = 0;
     while i < edges.len() {
-        seen = next_edge(seen, edges[i], edge_mark(i));
+        seen = next_edge(rt, seen, edges[i], edge_mark(i))?;
         i += 1;
     }
-    io::write_all(STDOUT_FILENO, b"\n");
-    seen.stray
+    rt.write_all(b"\n")?;
+    Ok(seen.stray)
 }
 
-pub fn show_words(name: &[u8], words: &[u32]) -> u64 {
-    io::write_all(STDOUT_FILENO, name);
+pub fn show_words(rt: &impl Print, name: &[u8], words: &[u32]) -> io::Result<u64> {
+    rt.write_all(name)?;
     let mut seen = Seen {
         front: true,
         stray: 0,
     };
     let mut i = 0;
     while i < words.len() {
-        seen = next(seen, wide(words[i]), wide(mark(i)));
+        seen = next(rt, seen, wide(words[i]), wide(mark(i)))?;
         i += 1;
     }
-    io::write_all(STDOUT_FILENO, b"\n");
-    seen.stray
+    rt.write_all(b"\n")?;
+    Ok(seen.stray)
 }
