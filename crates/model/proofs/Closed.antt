@@ -9,7 +9,6 @@ use mathlib.Core.List.Memᴰ.{append_cases}
 use mathlib.Core.List.Memᴰ.{cases_cons}
 use mathlib.Core.List.Memᴰ.{eq_of_singleton}
 use mathlib.Core.List.Memᴰ.{not-nil as nothing-in}
-use mathlib.Core.List.Memᴰ.{tail as there}
 use mathlib.Core.List.{List, [], ◌∷◌, Memᴰ as Member}
 use native.Mathlib.Omega.{arith}
 use lib.ListN.{length, length-append}

@@ -1,7 +1,7 @@
 -- Closing a path of three edges of a transitive role, by the definition alone.
 use mathlib.Core.Bool.{true, false}
 use mathlib.Core.Path.{◌≡◌, refl}
-use mathlib.Core.List.{[], ◌∷◌, ◌++◌, map, flat_map}
+use mathlib.Core.List.{[], ◌∷◌, ◌++◌, flat_map}
 use Rattle.deck.specs.Deck.{Deck, Role, Axiom, has}
 use Rattle.eval.specs.Lists.{range, keep, any}
 use Rattle.eval.specs.Structure.{has_edge, successors, pairs}

@@ -1,11 +1,11 @@
 -- What a run needs, test by test. Assumes nothing.
-use Prim.Native.Nat.{ℕ, ◌+◌, ◌*◌, ◌<◌, ◌≤◌}
-use mathlib.Core.Bool.{Bool, true, false, cond, ◌&&◌}
-use mathlib.Core.Path.{◌≡◌, refl, sym, ◌∙◌}
+use Prim.Native.Nat.{ℕ, ◌+◌, ◌*◌, ◌≤◌}
+use mathlib.Core.Bool.{Bool, true, false, ◌&&◌}
+use mathlib.Core.Path.{◌≡◌, refl}
 use native.Mathlib.Omega.{arith}
-use lib.Dec.{leb, ltb}
-use borrow.Author.Tests.{lt-ltb, le-ltb, leb-true}
-use Rattle.deck.specs.Deck.{Deck, axiom_count, class_count}
+use lib.Dec.{leb}
+use borrow.Author.Tests.{leb-true}
+use Rattle.deck.specs.Deck.{Deck, axiom_count}
 use Rattle.eval.specs.Lent.{label_width}
 use Rattle.build.specs.declared.bounds.Bounds.{Bounds}
 use Rattle.build.specs.Model.{top}

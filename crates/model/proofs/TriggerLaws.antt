@@ -21,11 +21,8 @@ use types.Run.{OneOf, miss}
 use denote.Enum.Declared.{tag_of}
 use Rattle.deck.specs.contracts.concepts.ConceptExpr.{the_type}
 use Rattle.deck.specs.declared.concepts.ConceptExpr.{ConceptExpr}
-use Rattle.deck.specs.declared.numbers.ConceptId.{ConceptId}
-use Rattle.deck.specs.declared.numbers.RoleWord.{RoleWord}
 use Rattle.deck.specs.declared.rows.Span.{Span}
 use Rattle.deck.specs.declared.axioms.AxiomRecord.{AxiomRecord}
-use Rattle.deck.specs.Numbers.{inverse_word, role_number}
 use Rattle.deck.specs.Deck.{Deck, Concept, Role, Axiom, class_count, concept_at, axiom_count, axiom_at}
 use Rattle.deck.specs.Content.{IsAccepted, deck_of}
 use Rattle.deck.specs.Reads.{ConceptRead, expr_of, list_of, ListFits, AxiomRead}

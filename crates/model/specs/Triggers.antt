@@ -1,5 +1,5 @@
 -- What an axiom's rules need before they can add something: what the table that the rounds read promises.
-use Rattle.std.specs.Prelude.{ℕ, ◌+◌, ◌-◌, ◌/◌, ◌%◌, ◌<◌, ◌≤◌, Bool, true, false, cond, List, [], map, ◌≡◌, length, get_or, ltb}
+use Rattle.std.specs.Prelude.{ℕ, ◌+◌, ◌-◌, ◌/◌, ◌%◌, ◌<◌, ◌≤◌, Bool, false, cond, List, [], map, ◌≡◌, length, get_or, ltb}
 use Rattle.deck.specs.Deck.{Deck, Concept, Axiom, class_count, concept_at, axiom_count, axiom_at}
 use Rattle.eval.specs.Lent.{bit}
 use Rattle.eval.specs.Lists.{any}

@@ -1,7 +1,6 @@
 use Rattle.model.proofs.EndsLaws.{adding-start, adding-done, adding-stop, adding-next}
 use Rattle.build.proofs.PushLaws.{left-room}
 use mathlib.Core.Path.{refl, ◌∙◌}
-use Prim.Native.Nat.{◌-◌}
 use native.Mathlib.Omega.{arith}
 use Rattle.model.proofs.closing.add_ends.Goals as goal
 

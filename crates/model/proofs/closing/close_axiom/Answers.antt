@@ -11,7 +11,8 @@ returns-in_default c =
 
 pub close_rule-requires : goal.close_rule-requires
 close_rule-requires c =
-    (c.requires.ready, rule-fits-as _ (sound _ c.requires.ready.accepted) _ c.requires.axiom_bound (sym c.rule_at-rule.ensures ∙ c.in-Compose.is))
+    let f = rule-fits-as _ (sound _ c.requires.ready.accepted) _ c.requires.axiom_bound (sym c.rule_at-rule.ensures ∙ c.in-Compose.is) in
+    record { ready = c.requires.ready; a_bound = f.0; b_bound = f.1.0; v_bound = f.1.1 }
 
 pub returns : goal.returns
 returns c =

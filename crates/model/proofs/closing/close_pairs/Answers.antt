@@ -4,7 +4,6 @@ use Rattle.model.proofs.KeyLaws.{rule-keys, fits-ends}
 use Rattle.model.proofs.CloseLaws.{from-stuck, from-same, from-fits, linked-fits, ready-next}
 use Rattle.build.proofs.PushLaws.{left_is}
 use mathlib.Core.Path.{refl, ◌∙◌}
-use Prim.Native.Nat.{◌-◌}
 use native.Mathlib.Nat.{sub-zero}
 use native.Mathlib.Omega.{arith}
 use Rattle.model.proofs.closing.close_pairs.Goals as goal
@@ -93,8 +92,7 @@ pub loop-k-preserved : goal.loop-k-preserved
 loop-k-preserved c =
     let w = c.loop-k in
     let G = w.invariant.0 in
-    let R = w.invariant.1 in
-    (
+    let R = w.invariant.1 in (
       going_next _ _ _ _ _ _ _ _ _ G c.next_pair-found.ensures c.in-At.is (left_is c.close_from-s.ensures (from-same _ _ G.on.built.elements _ _ _ _)) c.if-tripped.false,
       ready-next R c.close_from-s.ensures c.if-tripped.false (from-fits _ _ _ _ _ c.requires.v_bound _ (omega (arith, G.on.built.elements, going-below _ _ _ _ _ _ _ _ _ w.invariant.0 c.next_pair-found.ensures c.in-At.is)) _ R.fits),
       c.refresh.ensures,

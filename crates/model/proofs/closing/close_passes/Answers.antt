@@ -1,5 +1,4 @@
 use native.Mathlib.Omega.{arith}
-use Prim.Native.Nat.{◌-◌}
 use mathlib.Core.Path.{◌∙◌}
 use Rattle.deck.proofs.SoundLaws.{sound}
 use Rattle.build.proofs.PushLaws.{left_is}

@@ -3,7 +3,7 @@ use Rattle.eval.proofs.IndexLaws.{walk-starts, ahead-on}
 use Rattle.deck.specs.Content.{deck_of}
 use mathlib.Core.Path.{◌≡◌, refl, ◌∙◌}
 use native.Mathlib.Omega.{arith}
-use Prim.Native.Nat.{◌+◌, ◌/◌, ◌-◌}
+use Prim.Native.Nat.{◌+◌, ◌/◌}
 use Rattle.model.proofs.ends.mark_ends.Goals as goal
 
 pub clear_first-requires : goal.clear_first-requires

@@ -2,7 +2,7 @@ use Rattle.model.proofs.EndsLaws.{new-start, new-here, new-step, new-end}
 use Rattle.model.proofs.WordLaws.{pass_on}
 use mathlib.Core.Path.{ap, ◌∙◌}
 use native.Mathlib.Omega.{arith}
-use Prim.Native.Nat.{ℕ, ◌-◌, ◌/◌, ◌%◌, ◌^◌}
+use Prim.Native.Nat.{ℕ, ◌/◌, ◌%◌, ◌^◌}
 use Rattle.model.proofs.ends.next_new.Goals as goal
 
 pub loop-i-init : goal.loop-i-init

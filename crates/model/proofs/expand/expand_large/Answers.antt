@@ -29,7 +29,7 @@ slice_bounds-recall_rows-end c =
 
 pub recall_rows-requires : goal.recall_rows-requires
 recall_rows-requires c =
-    let P = record { prepared = c.requires.prepared; deck_bound = c.requires.deck_bound; deck_bound_2 = c.requires.deck_bound_2 } in record { accepted = P.0.accepted; floor_len = P.0.floor-wide; label_len = P.0.label-wide; deck_in_bounds = all_fit P.0; recalled = recalled-start _ _ _ 4096 (omega (arith, P.1.1)) }
+    record { accepted = c.requires.prepared.accepted; floor_len = c.requires.prepared.floor-wide; label_len = c.requires.prepared.label-wide; deck_in_bounds = all_fit c.requires.prepared; recalled = recalled-start _ _ _ 4096 (omega (arith, c.requires.deck_bound_2)) }
 
 pub slice_bounds-turns-end : goal.slice_bounds-turns-end
 slice_bounds-turns-end c =
@@ -45,7 +45,7 @@ slice_bounds-turns-end-3 c =
 
 pub turns-requires : goal.turns-requires
 turns-requires c =
-    let P = record { prepared = c.requires.prepared; deck_bound = c.requires.deck_bound; deck_bound_2 = c.requires.deck_bound_2 } in record { prepared = prepared-with P.0 (c.recall_rows.auto.label ∙ P.0.label-wide); indexed = c.index_facts.ensures; deck_in_bounds = omega (arith, P.1.0, c.index_facts.auto.index, length-replicate {A = ℕ} 20480 0); marked = c.mark_facts.ensures; deck_in_bounds_2 = omega (arith, P.1.1, c.mark_facts.auto.mask, length-replicate {A = ℕ} 64 0); recalled = c.recall_rows.ensures }
+    record { prepared = prepared-with c.requires.prepared (c.recall_rows.auto.label ∙ c.requires.prepared.label-wide); indexed = c.index_facts.ensures; deck_in_bounds = omega (arith, c.requires.deck_bound, c.index_facts.auto.index, length-replicate {A = ℕ} 20480 0); marked = c.mark_facts.ensures; deck_in_bounds_2 = omega (arith, c.requires.deck_bound_2, c.mark_facts.auto.mask, length-replicate {A = ℕ} 64 0); recalled = c.recall_rows.ensures }
 
 pub returns : goal.returns
 returns c =

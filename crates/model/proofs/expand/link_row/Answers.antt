@@ -46,4 +46,4 @@ put-requires c =
 pub returns : goal.returns
 unfolding row_label
 returns c =
-    let X = rw c.load_row.ensures at c.reach-a.ensures in record { built = X.0; recalled = recalled-reach c.requires.recalled_2 _ _ c.requires.k_bound X.1 (reach-rows X.0 _ _ _ refl) c.put.ensures }
+    record { built = (rw c.load_row.ensures at c.reach-a.ensures.built); recalled = recalled-reach c.requires.recalled_2 _ _ c.requires.k_bound (rw c.load_row.ensures at c.reach-a.ensures.place) (reach-rows (rw c.load_row.ensures at c.reach-a.ensures.built) _ _ _ refl) c.put.ensures }

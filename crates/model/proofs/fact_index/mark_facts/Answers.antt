@@ -1,6 +1,5 @@
 use native.Mathlib.Omega.{arith}
 use mathlib.Core.Path.{refl, ap, ◌∙◌}
-use Prim.Native.Nat.{◌-◌}
 use Rattle.deck.specs.Deck.{Fact}
 use Rattle.model.proofs.FactIndexLaws.{marked_start, marked_step, marked-done}
 use Rattle.model.proofs.fact_index.mark_facts.Goals as goal

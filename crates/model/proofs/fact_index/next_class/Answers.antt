@@ -1,5 +1,4 @@
 use native.Mathlib.Omega.{arith}
-use Prim.Native.Nat.{◌-◌}
 use Rattle.model.proofs.WordLaws.{pass_on}
 use Rattle.model.proofs.PassLaws.{pass-start, pass-here, pass_step, pass-rest, pass-end}
 use Rattle.model.proofs.fact_index.next_class.Goals as goal

@@ -1,8 +1,7 @@
 use native.Mathlib.Omega.{arith}
-use mathlib.Core.Logic.{⊎_elim}
-use Prim.Native.Nat.{◌-◌}
 use Rattle.model.proofs.pairs.count_pairs.Goals as goal
+use Rattle.model.proofs.pairs.count_pairs.Goals.{then-is_sub_role, else-is_sub_role}
 
 pub loop-i-preserved : goal.loop-i-preserved
 loop-i-preserved c =
-    ⊎_elim (λ w. (omega arith, omega (arith, w.1))) (λ w. (omega arith, omega (arith, w.1))) c.if-is_sub_role.branch
+    elim c.if-is_sub_role.branch [ then-is_sub_role w ↦ (omega arith, omega arith) | else-is_sub_role w ↦ (omega arith, omega arith) ]

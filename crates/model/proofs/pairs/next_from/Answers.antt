@@ -2,7 +2,6 @@ use Rattle.model.proofs.SweepLaws.{sweep-start, sweep-step, sweep-skip}
 use Rattle.eval.proofs.IndexLaws.{walk-starts, ahead-on}
 use Rattle.deck.specs.Content.{deck_of}
 use native.Mathlib.Omega.{arith}
-use Prim.Native.Nat.{◌-◌}
 use Rattle.model.proofs.pairs.next_from.Goals as goal
 
 pub loop-w-init : goal.loop-w-init

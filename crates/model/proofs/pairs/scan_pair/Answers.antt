@@ -1,5 +1,4 @@
 use native.Mathlib.Omega.{arith}
-use Prim.Native.Nat.{◌-◌}
 use mathlib.Core.Path.{◌≡◌}
 use Rattle.model.proofs.NextLaws.{near-start, near_step, near_first, near-nothing, key-start, key-next}
 use Rattle.model.proofs.pairs.scan_pair.Goals as goal

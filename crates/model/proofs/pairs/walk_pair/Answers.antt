@@ -1,7 +1,5 @@
 use Rattle.model.proofs.SweepLaws.{rows_none, rows-first, rows_on, rows-nothing}
 use native.Mathlib.Omega.{arith}
-use mathlib.Core.Bool.{false}
-use Prim.Native.Nat.{◌-◌}
 use Rattle.model.proofs.pairs.walk_pair.Goals as goal
 
 pub loop-from-init : goal.loop-from-init

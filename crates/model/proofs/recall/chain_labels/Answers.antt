@@ -1,5 +1,4 @@
 use native.Mathlib.Omega.{arith}
-use Prim.Native.Nat.{◌-◌}
 use mathlib.Core.Path.{◌≡◌, refl, ◌∙◌}
 use Rattle.atoms.specs.Rows.{rows_of}
 use Rattle.build.proofs.PrintLaws.{chained-row}

@@ -8,7 +8,7 @@ fires-requires c =
 
 pub returns-then-fires : goal.returns-then-fires
 returns-then-fires c =
-    fire-yes c.requires.prepared _ _ _ c.fires.ensures c.if-fires.true c.TODO_materialise-exists.ensures
+    fire-yes c.requires.prepared _ _ _ c.fires.ensures c.if-fires.true c.materialise_exists_sized.ensures
 
 pub returns : goal.returns
 returns c =

@@ -8,7 +8,6 @@ use Rattle.deck.specs.Reads.{list_of}
 use lib.ListN.{drop_of_length-le}
 use native.Mathlib.Omega.{arith}
 use mathlib.Core.Path.{refl, sym, ◌∙◌}
-use Prim.Native.Nat.{◌-◌}
 use Rattle.model.proofs.rounds.fire_equivalent.Goals as goal
 
 pub loop-i-init : goal.loop-i-init

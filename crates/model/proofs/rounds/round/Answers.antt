@@ -1,4 +1,3 @@
-use Prim.Native.Nat.{◌-◌}
 use mathlib.Core.Path.{refl, sym, ◌∙◌}
 use native.Mathlib.Omega.{arith}
 use Rattle.build.proofs.BuildLaws.{built-trans, prepared-after, model-start, model-done, model-stop, model-next, built-is}

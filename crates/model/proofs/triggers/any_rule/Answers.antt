@@ -1,9 +1,7 @@
-use Prim.Native.Nat.{◌-◌}
 use mathlib.Core.Path.{refl, sym, ◌∙◌}
 use native.Mathlib.Omega.{arith}
 use Rattle.deck.specs.Reads.{list_of}
 use Rattle.deck.proofs.TableLaws.{list_length}
-use Rattle.atoms.specs.Antecedent.{is_rule}
 use Rattle.atoms.proofs.ListWalks.{any-end, any_step, any-stop}
 use Rattle.model.proofs.triggers.any_rule.Goals as goal
 

@@ -1,4 +1,3 @@
-use Prim.Native.Nat.{◌-◌}
 use native.Mathlib.Omega.{arith}
 use Rattle.deck.specs.Content.{deck_of}
 use Rattle.deck.specs.Reads.{list_of}
