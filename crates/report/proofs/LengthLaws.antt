@@ -1,6 +1,6 @@
 -- How long the text can be. Assumes nothing.
 --     text-fits      any text fits in 204,864 bytes
-use mathlib.Core.Path.{◌≡◌, refl, ap}
+use mathlib.Core.Path.{◌≡◌, refl}
 use mathlib.Core.Bool.{Bool, true, false, cond}
 use mathlib.Core.List.{List, [], ◌∷◌, ◌++◌}
 use Prim.Native.Nat.{ℕ, zero, suc, ◌+◌, ◌*◌, ◌/◌, ◌%◌, ◌≤◌}
@@ -15,7 +15,7 @@ use Rattle.model.specs.declared.outcome.Outcome.TheVariants.{Confirmed, Failed, 
 use Rattle.model.specs.declared.run.RunAnswer.{RunAnswer}
 use Rattle.build.specs.declared.tally.Tally.{Tally}
 use Rattle.model.proofs.RunLaws.{done-passed}
-use Rattle.report.specs.Lines.{digit, spelt, decimal, field, newline, outcome_word, holds_word, fails_word, open_word, refused_word, summary_line, witness, verdict_text, verdict_line, refusal_line}
+use Rattle.report.specs.Lines.{digit, spelt, decimal, field, outcome_word, holds_word, fails_word, open_word, summary_line, witness, verdict_text, verdict_line, refusal_line}
 use Rattle.report.specs.Text.{program_bounds, labels_lent, edges_lent, log_lent, verdicts_lent, program_run, axiom_line, axiom_lines, answer_text, program_text}
 
 -- ---- numbers

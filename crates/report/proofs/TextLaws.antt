@@ -2,17 +2,16 @@
 --     run-text       the text of what equals the program's run
 --     report-short, report-done, report-whole   what a lent buffer then holds
 --     confirms       a text that begins with "confirmed" is that of a confirmed run, with all that is promised of one
-use mathlib.Core.Path.{◌≡◌, refl, sym, ap, ◌∙◌}
+use mathlib.Core.Path.{◌≡◌, refl, ap, ◌∙◌}
 use mathlib.Core.Bool.{Bool, true, false, cond}
-use mathlib.Core.List.{List, [], ◌∷◌, ◌++◌}
-use Prim.Native.Nat.{ℕ, ◌<◌, ◌≤◌, ◌+◌}
+use mathlib.Core.List.{List}
+use Prim.Native.Nat.{ℕ, ◌<◌, ◌≤◌}
 use native.Mathlib.Nat.{zero-add}
 use native.Mathlib.Omega.{arith}
 use borrow.Author.Tests.{lt-ltb, le-ltb}
 use lib.Dec.{ltb}
 use lib.ListN.{length, take, get_or}
 use lib.Seq.{take-length}
-use Rattle.deck.specs.Refusal.{number_of}
 use Rattle.deck.specs.Deck.{axiom_count}
 use Rattle.deck.specs.Content.{deck_of}
 use Rattle.model.specs.declared.outcome.Outcome.{Outcome}
@@ -21,11 +20,11 @@ use Rattle.model.specs.declared.run.RunAnswer.{RunAnswer}
 use Rattle.build.specs.declared.tally.Tally.{Tally}
 use Rattle.atoms.specs.Rows.{put}
 use Rattle.eval.specs.Lent.{structure_of}
-use Rattle.model.specs.Run.{Ran, ran, run, shape_in}
+use Rattle.model.specs.Run.{ran, run, shape_in}
 use Rattle.model.specs.Trust.{Trusted}
 use Rattle.atoms.proofs.RowLaws.{put-take}
 use Rattle.model.proofs.RunLaws.{trusted}
-use Rattle.report.specs.Lines.{outcome_word, summary_line, refusal_line, field}
+use Rattle.report.specs.Lines.{outcome_word, summary_line, refusal_line}
 use Rattle.report.specs.Writes.{Wrote}
 use Rattle.report.specs.Text.{program_bounds, labels_lent, edges_lent, log_lent, verdicts_lent, program_run, answer_text, run_text, program_text, Reported, reported, report, Confirms}
 use Rattle.report.proofs.LengthLaws.{text-fits}

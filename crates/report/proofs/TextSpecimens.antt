@@ -1,5 +1,5 @@
 -- The text of deck W, computed from its bytes: document 01, "All it prints".
-use mathlib.Core.Path.{◌≡◌, refl}
+use mathlib.Core.Path.{◌≡◌}
 use mathlib.Core.List.{List, [], ◌∷◌, flat_map}
 use Prim.Native.Nat.{ℕ}
 use lib.ListN.{length, length-replicate}
@@ -11,7 +11,7 @@ use Rattle.model.specs.declared.run.RunAnswer.{RunAnswer}
 use Rattle.atoms.specs.Rows.{put}
 use Rattle.model.specs.Run.{bounds_fit, room_fits, run_refusal, ran, run}
 use Rattle.model.proofs.RunSpecimens.{run-W}
-use Rattle.report.specs.Lines.{spelt, decimal, field, outcome_word, summary_line, witness, verdict_text, verdict_line, refusal_line}
+use Rattle.report.specs.Lines.{spelt, decimal, field, outcome_word, summary_line, witness, verdict_text, verdict_line}
 use Rattle.report.specs.Text.{program_bounds, labels_lent, edges_lent, log_lent, verdicts_lent, program_run, axiom_line, axiom_lines, program_text}
 
 labels-long : length labels_lent ≡ 1028

@@ -8,7 +8,7 @@ use Prim.Native.Nat.{ℕ, ◌+◌, ◌≤◌}
 use native.Mathlib.Nat.{add-zero}
 use native.Mathlib.Omega.{arith}
 use lib.ListN.{length, take, drop, length-append}
-use lib.Seq.{paste, paste-zero, length-paste, take-paste, drop-paste, take-length, drop-drop}
+use lib.Seq.{paste-zero, length-paste, take-paste, drop-paste, take-length, drop-drop}
 use Rattle.report.specs.Writes.{Wrote}
 
 pub wrote_none : (was : List ℕ) (at : ℕ) → at ≤ length was → Wrote was at [] was at

@@ -1,0 +1,13 @@
+use borrow.Author.Tests.{lt-ltb, le-ltb}
+use Rattle.report.specs.Text.{program_text}
+use Rattle.report.proofs.text.put_text.Goals as goal
+
+pub returns-then-input-gt65536 : goal.returns-then-input-gt65536
+unfolding program_text
+returns-then-input-gt65536 c =
+    rw (lt-ltb _ _ c.if-input-gt65536.true, ← c.refusal_number.ensures) c.refusal_line.ensures
+
+pub returns : goal.returns
+unfolding program_text
+returns c =
+    rw (le-ltb _ _ c.if-input-gt65536.false) c.put_run.ensures
