@@ -1,5 +1,5 @@
 -- the room for the text has room for any, so what stands at its start, as long as `report` says, is the text of the input
-use Rattle.std.proofs.Common.{ap, sym, ◌∙◌, arith, length, length-take}
+use Rattle.std.proofs.Common.{ap, arith, length, length-take}
 use Rattle.report.proofs.TextLaws.{report-whole}
 use Rattle.verify.proofs.main.Goals as goal
 
@@ -11,7 +11,7 @@ slice_bounds-text-end c =
 pub slice_bounds-write_text-end : goal.slice_bounds-write_text-end
 slice_bounds-write_text-end c =
     let w = report-whole _ _ (omega (arith, c.text_room-text.ensures.value_2)) c.report-n.ensures.is in
-    w.0 ∙ sym (ap length w.1)
+    omega (arith, w.0, ap length w.1)
 
 pub write_text-requires : goal.write_text-requires
 write_text-requires c =
