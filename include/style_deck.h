@@ -13,7 +13,7 @@
  * they were. `answer` needs at least STYLE_DECK_ANSWER_WORDS words: a shorter one is refused as 9, before anything else is
  * looked at.
  *
- * Stack: a call goes as deep as the deck's concepts nest, at most 16,384 levels. The deepest deck takes less than 6,700 KB in
+ * Stack: a call goes as deep as the deck's concepts nest, at most 16,384 levels. The deepest deck takes less than 6,000 KB in
  * a run; STYLE_DECK_STACK_BYTES are enough for every deck. A program that is handed decks by others makes its calls on a thread
  * with that much.
  */
