@@ -8,7 +8,6 @@ A change is made in the text, so each place must stand there once. Hand-made cas
 from mutations import report
 
 HEAPS = "TAG, RANGE, FILLED = 12, 13, 14"
-RAISED = "faults[0], faults\n        raise Refused(*found)"
 CHOICE = "found = min(faults, key=lambda fault: fault[0])"
 LEAVES = "yield LEAVES, value, word"
 FAULT = "(HEAPS.get(letter, RANGE), word) for letter, value, word in held"
@@ -23,8 +22,8 @@ CHANGES = [
     ('heaps: the last heap first', CHOICE, "found = max(faults, key=lambda fault: fault[0])"),
     ('word: the last fault', CHOICE, "found = faults[-1]"),
     ('word: the first in the deck', CHOICE, "found = min(faults, key=lambda fault: fault[1])"),
-    ('word: one more', RAISED, RAISED.replace("*found", "found[0], found[1] + 1")),
-    ('word: one less', RAISED, RAISED.replace("*found", "found[0], found[1] - 1")),
+    ('word: one more', "raise Refused(*found)", "raise Refused(found[0], found[1] + 1)"),
+    ('word: one less', "raise Refused(*found)", "raise Refused(found[0], found[1] - 1)"),
     ('word: counted from the part', "self.start[part] + k * len(record)", "k * len(record)"),
     ('word: all records three words wide', "self.start[part] + k * len(record)", "self.start[part] + k * 3"),
     ('word: a list word counted from the lists', "self.words[k], self.start['lists'] + k", "self.words[k], k"),
