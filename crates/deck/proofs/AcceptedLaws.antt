@@ -5,7 +5,7 @@ use mathlib.Core.Bool.{true}
 use mathlib.Core.List.{List}
 use Prim.Native.Nat.{ℕ, ◌<◌}
 use native.Mathlib.Omega.{arith}
-use Rattle.deck.specs.declared.DeckAnswer.TheVariants.{Accepted}
+use Rattle.std.specs.Prelude.{Ok}
 use Rattle.deck.specs.Answer.{Framed, first_refusal, trailer_answer}
 use Rattle.deck.specs.Trailer.{part_count}
 use Rattle.deck.specs.Parts.{part_word}
@@ -21,14 +21,14 @@ module _ (s : List ℕ) (h : IsAccepted s) where
   unfolding deck_answer
   framed = framed_of 1 s (or_left (trailer_answer 1 s) (first_refusal (part_answer s) 6) h)
 
-  record-accepted : (p k : ℕ) → p < 6 → k < part_count s p → record_answer s p k ≡ Accepted
+  record-accepted : (p k : ℕ) → p < 6 → k < part_count s p → record_answer s p k ≡ Ok tt
   unfolding deck_answer part_answer
   record-accepted p k lp lk =
       first-at (record_answer s p) (part_count s p)
       (first-at (part_answer s) 6 (or_right (trailer_answer 1 s) (first_refusal (part_answer s) 6) h) p lp) k lk
 
   -- a record without a fault has the shape of its part
-  shape : (p k : ℕ) → p < 6 → record_fault s p k ≡ Accepted → record_shape s p k ≡ true
+  shape : (p k : ℕ) → p < 6 → record_fault s p k ≡ Ok tt → record_shape s p k ≡ true
   shape p k l e = faultless s k p l e
 
   module _ (k : ℕ) where

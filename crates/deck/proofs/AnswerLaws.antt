@@ -8,39 +8,39 @@ use native.Mathlib.Numerals.{add-one}
 use native.Mathlib.Omega.{arith}
 use native.Mathlib.Nat.{eq-or-lt_of_le, le_of_suc-le-suc, not-suc-le-zero}
 use Rattle.deck.specs.declared.refusal.Refusal.{Refusal}
-use Rattle.deck.specs.declared.DeckAnswer.{DeckAnswer}
-use Rattle.deck.specs.declared.DeckAnswer.TheVariants.{Accepted, Refused}
+use Rattle.deck.specs.Refusal.{DeckAnswer}
+use Rattle.std.specs.Prelude.{Ok, Err, IsErrAnd}
 use Rattle.deck.specs.Answer.{unless, or_else, first_refusal}
 
 -- a test that was passed, and the rest
-pub unless-test : (b : Bool) (r : Refusal) (a : DeckAnswer) → unless b r a ≡ Accepted → b ≡ true
+pub unless-test : (b : Bool) (r : Refusal) (a : DeckAnswer) → unless b r a ≡ Ok tt → b ≡ true
 unless-test true r a h = refl
 unless-test false r a h = cc
 
-pub unless-rest : (b : Bool) (r : Refusal) (a : DeckAnswer) → unless b r a ≡ Accepted → a ≡ Accepted
+pub unless-rest : (b : Bool) (r : Refusal) (a : DeckAnswer) → unless b r a ≡ Ok tt → a ≡ Ok tt
 unless-rest true r a h = h
 unless-rest false r a h = cc
 
-pub or_left : (a b : DeckAnswer) → or_else a b ≡ Accepted → a ≡ Accepted
-or_left Accepted b h = refl
-or_left (Refused r) b h = h
+pub or_left : (a b : DeckAnswer) → or_else a b ≡ Ok tt → a ≡ Ok tt
+or_left (Ok tt) b h = refl
+or_left (Err r) b h = h
 
-pub or_right : (a b : DeckAnswer) → or_else a b ≡ Accepted → b ≡ Accepted
-or_right Accepted b h = h
-or_right (Refused r) b h = cc
+pub or_right : (a b : DeckAnswer) → or_else a b ≡ Ok tt → b ≡ Ok tt
+or_right (Ok tt) b h = h
+or_right (Err r) b h = cc
 
 module _ (f : ℕ → DeckAnswer) where
-  pub first-none : first_refusal f 0 ≡ Accepted
+  pub first-none : first_refusal f 0 ≡ Ok tt
   unfolding first_refusal
   first-none = refl
 
   -- one more record is accepted
-  pub first_more : (i : ℕ) → first_refusal f i ≡ Accepted → f i ≡ Accepted → first_refusal f (i + 1) ≡ Accepted
+  pub first_more : (i : ℕ) → first_refusal f i ≡ Ok tt → f i ≡ Ok tt → first_refusal f (i + 1) ≡ Ok tt
   unfolding first_refusal
   first_more i h t = rw (add-one, h) t
 
   -- the records before i are accepted, and record i is refused
-  pub first_stops : (i n : ℕ) (r : Refusal) → i < n → first_refusal f i ≡ Accepted → f i ≡ Refused r → first_refusal f n ≡ Refused r
+  pub first_stops : (i n : ℕ) (r : Refusal) → i < n → first_refusal f i ≡ Ok tt → f i ≡ Err r → first_refusal f n ≡ Err r
   unfolding first_refusal
   first_stops i zero r l h t = absurd (not-suc-le-zero l)
   first_stops i (suc n) r l h t =
@@ -48,7 +48,7 @@ module _ (f : ℕ → DeckAnswer) where
       (eq-or-lt_of_le (le_of_suc-le-suc l))
 
   -- each record of a part that is accepted is accepted
-  pub first-at : (n : ℕ) → first_refusal f n ≡ Accepted → (i : ℕ) → i < n → f i ≡ Accepted
+  pub first-at : (n : ℕ) → first_refusal f n ≡ Ok tt → (i : ℕ) → i < n → f i ≡ Ok tt
   unfolding first_refusal
   first-at zero h i l = absurd (not-suc-le-zero l)
   first-at (suc n) h i l =
@@ -56,7 +56,7 @@ module _ (f : ℕ → DeckAnswer) where
       (eq-or-lt_of_le (le_of_suc-le-suc l))
 
   -- a part is accepted if each of its records is
-  pub first-all : (n : ℕ) → ((i : ℕ) → i < n → f i ≡ Accepted) → first_refusal f n ≡ Accepted
+  pub first-all : (n : ℕ) → ((i : ℕ) → i < n → f i ≡ Ok tt) → first_refusal f n ≡ Ok tt
   unfolding first_refusal
   first-all zero h = refl
   first-all (suc n) h = rw (first-all n (λ i l. h i (omega arith))) (h n (omega arith))
@@ -66,3 +66,8 @@ pub first-same : (f g : ℕ → DeckAnswer) (n : ℕ) → ((i : ℕ) → i < n �
 unfolding first_refusal
 first-same f g zero h = refl
 first-same f g (suc n) h = rw (first-same f g n (λ i l. h i (omega arith)), h n (omega arith))
+
+-- a refusal that `?` hands on is the answer
+pub refused_on : (a b : DeckAnswer) (r : Refusal) → IsErrAnd a (λ q. q ≡ r) → Err r ≡ b → a ≡ b
+refused_on (Ok tt) b r h e = absurd h
+refused_on (Err q) b r h e = rw h e

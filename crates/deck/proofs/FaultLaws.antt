@@ -14,8 +14,8 @@ use lib.Dec.{leb}
 use lib.ListN.{length, get_or, get_or-eq_default}
 use Rattle.deck.specs.declared.refusal.Refusal.{Refusal}
 use Rattle.deck.specs.declared.refusal.Refusal.TheVariants.{OutOfRange}
-use Rattle.deck.specs.declared.DeckAnswer.{DeckAnswer}
-use Rattle.deck.specs.declared.DeckAnswer.TheVariants.{Accepted, Refused}
+use Rattle.deck.specs.Refusal.{DeckAnswer}
+use Rattle.std.specs.Prelude.{Ok, Err}
 use Rattle.deck.specs.declared.forms.Kind.{Kind}
 use Rattle.deck.specs.declared.forms.Kind.TheVariants.{Zero, Flag, Class, RealClass, Role, RoleWord, Concept, Any}
 use Rattle.deck.specs.declared.forms.Form.{Form}
@@ -38,9 +38,9 @@ first-append [] ys = refl
 first-append (x ∷ xs) ys = refl
 
 -- ---- pieces, one after the other
-or-accepted : (a : DeckAnswer) → or_else a Accepted ≡ a
-or-accepted Accepted = refl
-or-accepted (Refused r) = refl
+or-accepted : (a : DeckAnswer) → or_else a (Ok tt) ≡ a
+or-accepted (Ok tt) = refl
+or-accepted (Err r) = refl
 
 module _ (s : List ℕ) (p k : ℕ) (q : Piece) where
   first_more : (qs : List Piece) → first (faults_of s p k (q ∷ qs)) ≡ or_else (first (piece_faults s p k q)) (first (faults_of s p k qs))
@@ -62,18 +62,18 @@ module _ (s : List ℕ) (p k : ℕ) (q r : Piece) where
 
 -- ---- the words of a list, one after the other
 module _ (s : List ℕ) (start n : ℕ) where
-  pub words-none : first (word_faults s start n 0) ≡ Accepted
+  pub words-none : first (word_faults s start n 0) ≡ Ok tt
   unfolding word_faults
   words-none = refl
 
   -- a word below n, after words below n
-  pub words_more : (i : ℕ) → first (word_faults s start n i) ≡ Accepted → list_word s (start + i) < n → first (word_faults s start n (i + 1)) ≡ Accepted
+  pub words_more : (i : ℕ) → first (word_faults s start n i) ≡ Ok tt → list_word s (start + i) < n → first (word_faults s start n (i + 1)) ≡ Ok tt
   unfolding word_faults
   words_more i h l = rw (add-one, lt-ltb (list_word s (start + i)) n l) (first-append (word_faults s start n i) [] ∙ rw h)
 
   -- the first word that is not below n
-  pub words-stop : (i m : ℕ) → i < m → first (word_faults s start n i) ≡ Accepted → n ≤ list_word s (start + i)
-      → first (word_faults s start n m) ≡ Refused (OutOfRange (record { 0 = part_place s 6 (start + i) 0 }))
+  pub words-stop : (i m : ℕ) → i < m → first (word_faults s start n i) ≡ Ok tt → n ≤ list_word s (start + i)
+      → first (word_faults s start n m) ≡ Err (OutOfRange (record { 0 = part_place s 6 (start + i) 0 }))
   unfolding word_faults
   words-stop i zero l h g = absurd (not-suc-le-zero l)
   words-stop i (suc m) l h g =
@@ -90,7 +90,7 @@ abbrev Heap : ℕ → List Refusal → Type 0
 Heap n [] = Unit {0}
 Heap n (r ∷ rs) = (number_of r ≡ n) × Heap n rs
 
-piled-none : (m n : ℕ) (rs : List Refusal) → m < n → Piled n rs → first_with m rs ≡ Accepted
+piled-none : (m n : ℕ) (rs : List Refusal) → m < n → Piled n rs → first_with m rs ≡ Ok tt
 unfolding first_with
 piled-none m n [] l h = refl
 piled-none m n (r ∷ rs) l h = rw (ne_eqb (number_of r) m (λ e. omega (arith, h.0, e))) (piled-none m (number_of r) rs (omega (arith, h.0)) h.1.1)
@@ -194,20 +194,20 @@ module _ (s : List ℕ) (k : ℕ) where
 
 -- ---- no fault exactly if the shape fits
 abbrev passes : DeckAnswer → Bool
-passes Accepted = true
-passes (Refused r) = false
+passes (Ok tt) = true
+passes (Err r) = false
 
 passes-or : (a b : DeckAnswer) → passes (or_else a b) ≡ passes a && passes b
-passes-or Accepted b = refl
-passes-or (Refused r) b = refl
+passes-or (Ok tt) b = refl
+passes-or (Err r) b = refl
 
-passed : (a : DeckAnswer) → passes a ≡ true → a ≡ Accepted
-passed Accepted h = refl
-passed (Refused r) h = cc
+passed : (a : DeckAnswer) → passes a ≡ true → a ≡ Ok tt
+passed (Ok tt) h = refl
+passed (Err r) h = cc
 
 refused-or : (a b : DeckAnswer) → passes a ≡ false → or_else a b ≡ a
-refused-or Accepted b h = cc
-refused-or (Refused r) b h = refl
+refused-or (Ok tt) b h = cc
+refused-or (Err r) b h = refl
 
 and-end : (a : Bool) → a && true ≡ a
 and-end true = refl
@@ -298,10 +298,10 @@ module _ (s : List ℕ) where
       unfolding FitsAt
       fault-shape = rw (walk s k p l) (passes-pieces p k (record_pieces s p k) ∙ case_at FitsAt 6 p record-fits l)
 
-      pub no-fault : record_shape s p k ≡ true → record_fault s p k ≡ Accepted
+      pub no-fault : record_shape s p k ≡ true → record_fault s p k ≡ Ok tt
       no-fault h = passed (record_fault s p k) (fault-shape ∙ h)
 
-      pub faultless : record_fault s p k ≡ Accepted → record_shape s p k ≡ true
+      pub faultless : record_fault s p k ≡ Ok tt → record_shape s p k ≡ true
       faultless h = sym fault-shape ∙ rw h
 
       -- a record of another shape is refused for its fault, whatever is tested after

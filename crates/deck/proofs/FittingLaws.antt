@@ -9,7 +9,7 @@ use native.Mathlib.Numerals.{add-one}
 use native.Mathlib.Omega.{arith}
 use borrow.Author.Tests.{lt-ltb, eq-eqb}
 use lib.Dec.{ltb, eqb}
-use Rattle.deck.specs.declared.DeckAnswer.TheVariants.{Accepted}
+use Rattle.std.specs.Prelude.{Ok}
 use Rattle.deck.specs.declared.forms.Kind.TheVariants.{Flag, Class, RealClass, Role}
 use Rattle.deck.specs.declared.forms.Form.TheVariants.{Fields, FieldList}
 use Rattle.deck.specs.Answer.{trailer_answer}
@@ -34,7 +34,7 @@ pub record RowFits (s : List ℕ) (bound p k f : ℕ) : Type 0 where
 
 -- the records of a deck fit, by their words
 pub record Fitting (s : List ℕ) : Type 0 where
-  pub trailer : trailer_answer 1 s ≡ Accepted
+  pub trailer : trailer_answer 1 s ≡ Ok tt
   pub class-form : (k : ℕ) → k < part_count s 0 → FormFits s 0 (FieldList Flag Class) (part_word s 0 k 0) (part_word s 0 k 1) (part_word s 0 k 2)
   pub class-rises : (k : ℕ) → k < part_count s 0 → Rises (list_of s (span_at s 0 k 1))
   pub class-own : (k : ℕ) → k < part_count s 0 → eqb (part_word s 0 k 0) 1 ≡ false → has (list_of s (span_at s 0 k 1)) k ≡ true
@@ -52,7 +52,7 @@ or_from true b h = refl
 or_from false b h = h refl
 
 module _ (s : List ℕ) (F : Fitting s) where
-  class-accepted : (k : ℕ) → k < part_count s 0 → class_answer s k ≡ Accepted
+  class-accepted : (k : ℕ) → k < part_count s 0 → class_answer s k ≡ Ok tt
   unfolding class_answer
   class-accepted k l =
       let start = part_word s 0 k 1 in
@@ -63,7 +63,7 @@ module _ (s : List ℕ) (F : Fitting s) where
         or_from (eqb (part_word s 0 k 0) 1) (row_has s start count k) (λ e. sym (list-has s start count k) ∙ F.class-own k l e),
       )
 
-  role-accepted : (k : ℕ) → k < part_count s 1 → role_answer s k ≡ Accepted
+  role-accepted : (k : ℕ) → k < part_count s 1 → role_answer s k ≡ Ok tt
   unfolding role_answer
   role-accepted k l =
       let a = F.sub-roles k l in
@@ -96,7 +96,7 @@ module _ (s : List ℕ) (F : Fitting s) where
       || (eqb (part_word s 2 (suc k - 1) 0) (part_word s 2 (suc k) 0) && ltb (part_word s 2 (suc k - 1) 1) (part_word s 2 (suc k) 1)))
       (λ n. rw e (rw (add-one k) at (before-test k (omega arith))))
 
-  injected-accepted : (k : ℕ) → k < part_count s 2 → injected_answer s k ≡ Accepted
+  injected-accepted : (k : ℕ) → k < part_count s 2 → injected_answer s k ≡ Ok tt
   unfolding injected_answer
   injected-accepted k l =
       rw (
@@ -104,25 +104,25 @@ module _ (s : List ℕ) (F : Fitting s) where
         injected-order k l,
       )
 
-  concept-accepted : (k : ℕ) → k < part_count s 3 → concept_answer s k ≡ Accepted
+  concept-accepted : (k : ℕ) → k < part_count s 3 → concept_answer s k ≡ Ok tt
   unfolding concept_answer
   concept-accepted k l =
       let form = concept_form (part_word s 3 k 0) in
       let below = fits-form s k form (part_word s 3 k 1) (part_word s 3 k 2) (part_word s 3 k 3) (F.concept-form k l) in
       rw (no-fault s k 3 (omega arith) (form-more s k (part_count s 3) (omega arith) form (part_word s 3 k 1) (part_word s 3 k 2) (part_word s 3 k 3) below), below)
 
-  axiom-accepted : (k : ℕ) → k < part_count s 4 → axiom_answer s k ≡ Accepted
+  axiom-accepted : (k : ℕ) → k < part_count s 4 → axiom_answer s k ≡ Ok tt
   unfolding axiom_answer
   axiom-accepted k l =
       no-fault s k 4 (omega arith) (fits-form s (part_count s 3) (axiom_form (part_word s 4 k 0)) (part_word s 4 k 1) (part_word s 4 k 2) (part_word s 4 k 3) (F.axiom-form k l))
 
-  fact-accepted : (k : ℕ) → k < part_count s 5 → fact_answer s k ≡ Accepted
+  fact-accepted : (k : ℕ) → k < part_count s 5 → fact_answer s k ≡ Ok tt
   unfolding fact_answer
   fact-accepted k l =
       no-fault s k 5 (omega arith) (fits-form s 0 (Fields Class Role Class) (part_word s 5 k 0) (part_word s 5 k 1) (part_word s 5 k 2) (F.fact-form k l))
 
   PartAt : ℕ → Type 0
-  PartAt p = (k : ℕ) → k < part_count s p → record_answer s p k ≡ Accepted
+  PartAt p = (k : ℕ) → k < part_count s p → record_answer s p k ≡ Ok tt
 
   parts-accepted : Cases PartAt 6
   unfolding PartAt record_answer

@@ -9,7 +9,7 @@ use native.Mathlib.Nat.{not-suc-le-zero, le_of_suc-le-suc}
 use native.Mathlib.Omega.{arith}
 use borrow.Author.Tests.{eqb-true, eq-eqb}
 use lib.Dec.{eqb}
-use Rattle.deck.specs.declared.injected.InjectedClass.TheVariants.{Found, Absent}
+use Rattle.std.specs.Prelude.{Option}
 use Rattle.deck.specs.Trailer.{part_count}
 use Rattle.deck.specs.Parts.{part_word}
 use Rattle.deck.specs.Deck.{InjectedEntry, injected_class, role_count}
@@ -39,14 +39,14 @@ module _ (y r : ℕ) (x : InjectedEntry) where
 
 module _ (y r : ℕ) where
   first_found : (g : ℕ → InjectedEntry) (n i : ℕ) → i < n → Is y r (g i) → ((j : ℕ) → j < i → Is y r (g j) → ⊥)
-      → injected_class (table g n) y r ≡ Found (record { 0 = (g i).filler })
+      → injected_class (table g n) y r ≡ Option.Some (record { 0 = (g i).filler })
   unfolding injected_class table
   first_found g zero i l p none = absurd (not-suc-le-zero l)
   first_found g (suc n) zero l p none = rw (is_true y r (g 0) p)
   first_found g (suc n) (suc i) l p none =
       rw (is_false y r (g 0) (none 0 (omega arith))) (first_found (λ k. g (suc k)) n i (le_of_suc-le-suc l) p (λ j h. none (suc j) (omega arith)))
 
-  none_found : (g : ℕ → InjectedEntry) (n : ℕ) → ((j : ℕ) → j < n → Is y r (g j) → ⊥) → injected_class (table g n) y r ≡ Absent
+  none_found : (g : ℕ → InjectedEntry) (n : ℕ) → ((j : ℕ) → j < n → Is y r (g j) → ⊥) → injected_class (table g n) y r ≡ Option.None
   unfolding injected_class table
   none_found g zero none = refl
   none_found g (suc n) none = rw (is_false y r (g 0) (none 0 (omega arith))) (none_found (λ k. g (suc k)) n (λ j h. none (suc j) (omega arith)))
@@ -79,7 +79,7 @@ module _ (s : List ℕ) (h : IsAccepted s) where
     unfolding injected_in
     of-key k p = omega (arith, p.0, p.1)
 
-    pub injected-found : (k : ℕ) → k < part_count s 2 → injected_key s k ≡ y * 1024 + r → InjectedRead (deck_of s) y r (Found (record { 0 = part_word s 2 k 2 }))
+    pub injected-found : (k : ℕ) → k < part_count s 2 → injected_key s k ≡ y * 1024 + r → InjectedRead (deck_of s) y r (Option.Some (record { 0 = part_word s 2 k 2 }))
     unfolding deck_of injected_in
     injected-found k l e = record {
       is =
@@ -88,6 +88,6 @@ module _ (s : List ℕ) (h : IsAccepted s) where
       fits = (injected-fits s h k l).filler;
     }
 
-    pub injected-absent : ((k : ℕ) → k < part_count s 2 → injected_key s k ≡ y * 1024 + r → ⊥) → InjectedRead (deck_of s) y r Absent
+    pub injected-absent : ((k : ℕ) → k < part_count s 2 → injected_key s k ≡ y * 1024 + r → ⊥) → InjectedRead (deck_of s) y r Option.None
     unfolding deck_of
     injected-absent none = record { is = sym (none_found y r (injected_in s) (part_count s 2) (λ j m p. none j m (of-key j p))); fits = tt }

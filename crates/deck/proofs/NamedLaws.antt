@@ -12,8 +12,8 @@ use lib.Dec.{eqb, leb}
 use lib.ListN.{length, get_or}
 use Rattle.deck.specs.declared.refusal.Refusal.{Refusal}
 use Rattle.deck.specs.declared.refusal.Refusal.TheVariants.{TooShort, UnknownEdition, CountOverLimit, BadLayout, BadOrder, ForwardOperand, BadBounds, ShortBuffer, ForeignStructure, AbsentIndex, UnknownTag, OutOfRange, FilledField}
-use Rattle.deck.specs.declared.DeckAnswer.{DeckAnswer}
-use Rattle.deck.specs.declared.DeckAnswer.TheVariants.{Accepted, Refused}
+use Rattle.deck.specs.Refusal.{DeckAnswer}
+use Rattle.std.specs.Prelude.{Ok, Err}
 use Rattle.deck.specs.declared.forms.Kind.{Kind}
 use Rattle.deck.specs.declared.forms.Kind.TheVariants.{Zero, Flag, Class, RealClass, Role, RoleWord, Concept, Any}
 use Rattle.deck.specs.Refusal.{number_of, word_of, no_word}
@@ -34,57 +34,57 @@ use Rattle.deck.proofs.FaultLaws.{first-append, walk}
 
 -- ---- where a refusal comes from
 
-clash : {A : Type 0} {r : Refusal} → Accepted ≡ Refused r → A
+clash : {A : Type 0} {r : Refusal} → ◌≡◌ {A = DeckAnswer} (Ok tt) (Err r) → A
 clash e = let z : ◌≡◌ {A = ℕ} 0 1 = cc in absurd (omega arith)
 
-or_cases : (a b : DeckAnswer) (r : Refusal) → or_else a b ≡ Refused r → (a ≡ Refused r) ⊎ (b ≡ Refused r)
-or_cases Accepted b r e = inr e
-or_cases (Refused q) b r e = inl e
+or_cases : (a b : DeckAnswer) (r : Refusal) → or_else a b ≡ Err r → (a ≡ Err r) ⊎ (b ≡ Err r)
+or_cases (Ok tt) b r e = inr e
+or_cases (Err q) b r e = inl e
 
-first_found : (f : ℕ → DeckAnswer) (n : ℕ) (r : Refusal) → first_refusal f n ≡ Refused r → (i : ℕ) × (i < n) × (f i ≡ Refused r)
+first_found : (f : ℕ → DeckAnswer) (n : ℕ) (r : Refusal) → first_refusal f n ≡ Err r → (i : ℕ) × (i < n) × (f i ≡ Err r)
 unfolding first_refusal
 first_found f zero r e = clash e
 first_found f (suc n) r e =
-    ⊎_elim (λ (h : first_refusal f n ≡ Refused r). let t = first_found f n r h in (t.0, omega (arith, t.1), t.2))
-    (λ (h : f n ≡ Refused r). (n, omega arith, h)) (or_cases (first_refusal f n) (f n) r e)
+    ⊎_elim (λ (h : first_refusal f n ≡ Err r). let t = first_found f n r h in (t.0, omega (arith, t.1), t.2))
+    (λ (h : f n ≡ Err r). (n, omega arith, h)) (or_cases (first_refusal f n) (f n) r e)
 
 -- an answer that refuses, if at all, with a number below 12
 abbrev Low : DeckAnswer → Type 0
-Low Accepted = Unit {0}
-Low (Refused r) = number_of r < 12
+Low (Ok tt) = Unit {0}
+Low (Err r) = number_of r < 12
 
 low-unless : (b : Bool) (q : Refusal) (rest : DeckAnswer) → number_of q < 12 → Low rest → Low (unless b q rest)
 low-unless true q rest l h = h
 low-unless false q rest l h = l
 
-tests-low : (a b c d : Bool) → Low (unless a TooShort (unless b UnknownEdition (unless c CountOverLimit (unless d BadLayout Accepted))))
+tests-low : (a b c d : Bool) → Low (unless a TooShort (unless b UnknownEdition (unless c CountOverLimit (unless d BadLayout (Ok tt)))))
 tests-low false b c d = omega arith
 tests-low true false c d = omega arith
 tests-low true true false d = omega arith
-tests-low true true true d = low-unless d BadLayout Accepted (omega arith) tt
+tests-low true true true d = low-unless d BadLayout (Ok tt) (omega arith) tt
 
 trailer-low : (e : ℕ) (s : List ℕ) → Low (trailer_answer e s)
 unfolding trailer_answer
 trailer-low e s = tests-low (eqb (length s % 4) 0 && leb 72 (length s)) (eqb (edition s) e) (counts_fit s) (layout_fits s)
 
 module _ (r : Refusal) (high : 12 ≤ number_of r) where
-  not_low : (a : DeckAnswer) → Low a → a ≡ Refused r → ⊥
+  not_low : (a : DeckAnswer) → Low a → a ≡ Err r → ⊥
   not_low a l e = let z : number_of r < 12 = subst Low e l in omega arith
 
-  after-low : (a b : DeckAnswer) → Low a → or_else a b ≡ Refused r → (a ≡ Accepted) × (b ≡ Refused r)
-  after-low Accepted b l e = (refl, e)
-  after-low (Refused q) b l e = absurd (not_low (Refused q) l e)
+  after-low : (a b : DeckAnswer) → Low a → or_else a b ≡ Err r → (a ≡ Ok tt) × (b ≡ Err r)
+  after-low (Ok tt) b l e = (refl, e)
+  after-low (Err q) b l e = absurd (not_low (Err q) l e)
 
-  before-low : (a b : DeckAnswer) → Low b → or_else a b ≡ Refused r → a ≡ Refused r
-  before-low a b l e = ⊎_elim (λ (h : a ≡ Refused r). h) (λ (h : b ≡ Refused r). absurd (not_low b l h)) (or_cases a b r e)
+  before-low : (a b : DeckAnswer) → Low b → or_else a b ≡ Err r → a ≡ Err r
+  before-low a b l e = ⊎_elim (λ (h : a ≡ Err r). h) (λ (h : b ≡ Err r). absurd (not_low b l h)) (or_cases a b r e)
 
   -- 12, 13 and 14 come from the faults of a record, not from its test for 6 or 7
   module _ (s : List ℕ) where
     FaultOnly : ℕ → Type 0
-    FaultOnly p = (k : ℕ) → record_answer s p k ≡ Refused r → record_fault s p k ≡ Refused r
+    FaultOnly p = (k : ℕ) → record_answer s p k ≡ Err r → record_fault s p k ≡ Err r
 
-    tested : (p k : ℕ) (b : Bool) (q : Refusal) → number_of q < 12 → or_else (record_fault s p k) (unless b q Accepted) ≡ Refused r → record_fault s p k ≡ Refused r
-    tested p k b q l = before-low (record_fault s p k) (unless b q Accepted) (low-unless b q Accepted l tt)
+    tested : (p k : ℕ) (b : Bool) (q : Refusal) → number_of q < 12 → or_else (record_fault s p k) (unless b q (Ok tt)) ≡ Err r → record_fault s p k ≡ Err r
+    tested p k b q l = before-low (record_fault s p k) (unless b q (Ok tt)) (low-unless b q (Ok tt) l tt)
 
     all-faults : Cases FaultOnly 6
     unfolding FaultOnly record_answer class_answer role_answer injected_answer concept_answer axiom_answer fact_answer
@@ -108,18 +108,18 @@ module _ (r : Refusal) (high : 12 ≤ number_of r) where
       λ k e. e,
     )
 
-    fault-only : (p k : ℕ) → p < 6 → record_answer s p k ≡ Refused r → record_fault s p k ≡ Refused r
+    fault-only : (p k : ℕ) → p < 6 → record_answer s p k ≡ Err r → record_fault s p k ≡ Err r
     unfolding FaultOnly
     fault-only p k l = case_at FaultOnly 6 p all-faults l k
 
 -- ---- what the first fault of a piece says
 
-unless-found : (b : Bool) (q r : Refusal) → first (fault_unless b q) ≡ Refused r → (r ≡ q) × (b ≡ false)
+unless-found : (b : Bool) (q r : Refusal) → first (fault_unless b q) ≡ Err r → (r ≡ q) × (b ≡ false)
 unless-found true q r e = clash e
 unless-found false q r e = (cc, refl)
 
-cond-found : (b : Bool) (xs : List Refusal) (q r : Refusal) → first (cond b xs (q ∷ [])) ≡ Refused r
-    → ((b ≡ true) × (first xs ≡ Refused r)) ⊎ ((b ≡ false) × (r ≡ q))
+cond-found : (b : Bool) (xs : List Refusal) (q r : Refusal) → first (cond b xs (q ∷ [])) ≡ Err r
+    → ((b ≡ true) × (first xs ≡ Err r)) ⊎ ((b ≡ false) × (r ≡ q))
 cond-found true xs q r e = inl (refl, e)
 cond-found false xs q r e = inr (refl, cc)
 
@@ -144,28 +144,28 @@ module _ (s : List ℕ) where
   amiss-word Concept w r h = rw h.0
   amiss-word Any w r h = rw h.0
 
-  word-found : (start n count : ℕ) (r : Refusal) → first (word_faults s start n count) ≡ Refused r
+  word-found : (start n count : ℕ) (r : Refusal) → first (word_faults s start n count) ≡ Err r
       → (i : ℕ) × (i < count) × (r ≡ OutOfRange (record { 0 = part_place s 6 (start + i) 0 })) × (n ≤ list_word s (start + i))
   unfolding word_faults
   word-found start n zero r e = clash e
   word-found start n (suc c) r e =
       let q = OutOfRange (record { 0 = part_place s 6 (start + c) 0 }) in
       let b = word_below s start n c in
-      ⊎_elim (λ (h : first (word_faults s start n c) ≡ Refused r). let t = word-found start n c r h in (t.0, omega (arith, t.1), t.2, t.3))
-      (λ (h : first (fault_unless b q) ≡ Refused r). let t = unless-found b q r h in (c, omega arith, t.0, ltb-false (list_word s (start + c)) n t.1))
+      ⊎_elim (λ (h : first (word_faults s start n c) ≡ Err r). let t = word-found start n c r h in (t.0, omega (arith, t.1), t.2, t.3))
+      (λ (h : first (fault_unless b q) ≡ Err r). let t = unless-found b q r h in (c, omega arith, t.0, ltb-false (list_word s (start + c)) n t.1))
       (or_cases (first (word_faults s start n c)) (first (fault_unless b q)) r (rw (first-append (word_faults s start n c) (fault_unless b q)) at e))
 
   module _ (p k : ℕ) where
-    piece-found : (qs : List Piece) (r : Refusal) → first (faults_of s p k qs) ≡ Refused r
-        → (i : ℕ) × (i < length qs) × (first (piece_faults s p k (get_or qs i NoForm)) ≡ Refused r)
+    piece-found : (qs : List Piece) (r : Refusal) → first (faults_of s p k qs) ≡ Err r
+        → (i : ℕ) × (i < length qs) × (first (piece_faults s p k (get_or qs i NoForm)) ≡ Err r)
     unfolding flat_map
     piece-found [] r e = clash e
     piece-found (q ∷ qs) r e =
-        ⊎_elim (λ (h : first (piece_faults s p k q) ≡ Refused r). (zero, omega arith, h))
-        (λ (h : first (faults_of s p k qs) ≡ Refused r). let t = piece-found qs r h in (suc t.0, omega (arith, t.1), t.2))
+        ⊎_elim (λ (h : first (piece_faults s p k q) ≡ Err r). (zero, omega arith, h))
+        (λ (h : first (faults_of s p k qs) ≡ Err r). let t = piece-found qs r h in (suc t.0, omega (arith, t.1), t.2))
         (or_cases (first (piece_faults s p k q)) (first (faults_of s p k qs)) r (rw (first-append (piece_faults s p k q) (faults_of s p k qs)) at e))
 
-    piece-fault : (q : Piece) → PieceAt s p k q → (r : Refusal) → first (piece_faults s p k q) ≡ Refused r → AtFault s p k q r
+    piece-fault : (q : Piece) → PieceAt s p k q → (r : Refusal) → first (piece_faults s p k q) ≡ Err r → AtFault s p k q r
     unfolding part_word
     piece-fault (Field f kind) l r e =
         let t = unless-found (fits (counts_of s) (part_count s 3) kind (part_word s p k f)) (fault_of kind (part_place s p k f)) r e in
@@ -177,7 +177,7 @@ module _ (s : List ℕ) where
         let words = word_faults s start bound count in
         let q = OutOfRange (record { 0 = part_place s p k f }) in
         ⊎_elim
-        (λ (h : (row_fits s start count ≡ true) × (first words ≡ Refused r)).
+        (λ (h : (row_fits s start count ≡ true) × (first words ≡ Err r)).
         let t = word-found start bound count r h.1 in
         inr (record { item = t.0; known = t.1; inside = leb-true (start + count) (part_count s 6) h.0; is = t.2; stray = rw t.2 t.3 }))
         (λ (h : (row_fits s start count ≡ false) × (r ≡ q)). inl (h.1, leb-false (start + count) (part_count s 6) h.0))
@@ -192,7 +192,7 @@ module _ (s : List ℕ) where
         h
     piece-within F lp lk NoForm l r h = rw h.0 (in-part s F p k 0 (omega arith) lk l.0)
 
-pub named : (s : List ℕ) (r : Refusal) → deck_answer s ≡ Refused r → 12 ≤ number_of r → Named s r
+pub named : (s : List ℕ) (r : Refusal) → deck_answer s ≡ Err r → 12 ≤ number_of r → Named s r
 unfolding deck_answer part_answer
 named s r e high =
     let t = after-low r high (trailer_answer 1 s) (first_refusal (part_answer s) 6) (trailer-low 1 s) e in
@@ -216,7 +216,7 @@ named s r e high =
     }
 
 -- the word of 12, 13 or 14 is not taken for none
-pub word-told : (s : List ℕ) (r : Refusal) → deck_answer s ≡ Refused r → 12 ≤ number_of r → word_of r < no_word
+pub word-told : (s : List ℕ) (r : Refusal) → deck_answer s ≡ Err r → 12 ≤ number_of r → word_of r < no_word
 unfolding deck_answer
 word-told s r e high =
     let t = after-low r high (trailer_answer 1 s) (first_refusal (part_answer s) 6) (trailer-low 1 s) e in

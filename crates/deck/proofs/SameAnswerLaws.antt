@@ -6,7 +6,7 @@ use mathlib.Core.Bool.{true}
 use mathlib.Core.List.{List, [], ◌∷◌, flat_map}
 use Prim.Native.Nat.{ℕ, zero, suc, ◌+◌, ◌-◌, ◌<◌, ◌≤◌}
 use native.Mathlib.Omega.{arith}
-use Rattle.deck.specs.declared.DeckAnswer.TheVariants.{Accepted}
+use Rattle.std.specs.Prelude.{Ok}
 use Rattle.deck.specs.declared.forms.Form.{Form}
 use Rattle.deck.specs.declared.forms.Form.TheVariants.{Fields, ListField, FieldList, Unknown}
 use Rattle.deck.specs.Answer.{first_refusal, trailer_answer}
@@ -24,7 +24,7 @@ use Rattle.deck.proofs.CaseLaws.{Cases, case_at}
 use Rattle.deck.proofs.TrailerLaws.{framed_of, starts-at}
 use Rattle.deck.proofs.PieceLaws.{PieceAt, Each, record-pieces}
 
-module _ (s t : List ℕ) (S : Same s t) (L : part_count s 6 ≡ part_count t 6) (A : trailer_answer 1 s ≡ Accepted) (B : trailer_answer 1 t ≡ Accepted) where
+module _ (s t : List ℕ) (S : Same s t) (L : part_count s 6 ≡ part_count t 6) (A : trailer_answer 1 s ≡ Ok tt) (B : trailer_answer 1 t ≡ Ok tt) where
   -- the row or list at fields f and f + 1 of a record
   module _ (p k f : ℕ) (lp : p < 6) (lk : k < part_count s p) (e : names_list s p k f ≡ true) where
     word_same : (i : ℕ) → part_word s p k f ≤ i → i < part_word s p k f + part_word s p k (f + 1) → list_word s i ≡ list_word t i

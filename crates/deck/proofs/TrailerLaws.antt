@@ -11,7 +11,7 @@ use native.Mathlib.Omega.{arith}
 use borrow.Author.Tests.{eqb-true, leb-true}
 use lib.Dec.{lit≤, eqb, leb}
 use lib.ListN.{length}
-use Rattle.deck.specs.declared.DeckAnswer.TheVariants.{Accepted}
+use Rattle.std.specs.Prelude.{Ok}
 use Rattle.deck.specs.Answer.{trailer_answer, Framed}
 use Rattle.deck.specs.Word.{trailer_at}
 use Rattle.deck.specs.Trailer.{limit_of, width_of, words_before, part_count, part_start, starts_fit, start_fits, counts_fit, count_fits, layout_fits, body_count, real_of, edition}
@@ -49,12 +49,12 @@ before-le s p (suc n) l =
     (eq-or-lt_of_le (le_of_suc-le-suc l))
 
 -- a reader that gives a deck none of the refusals 1 to 4 is one of the deck's edition
-pub framed_of : (e : ℕ) (s : List ℕ) → trailer_answer e s ≡ Accepted → Framed s
+pub framed_of : (e : ℕ) (s : List ℕ) → trailer_answer e s ≡ Ok tt → Framed s
 unfolding trailer_answer
 framed_of e s h =
     let t1 = eqb (length s % 4) 0 && leb 72 (length s) in
     let own : edition s ≡ e = eqb-true (edition s) e (unless-test (eqb (edition s) e) _ _ (unless-rest t1 _ _ h)) in
-    subst (λ (n : ℕ). trailer_answer n s ≡ Accepted) (sym own) h
+    subst (λ (n : ℕ). trailer_answer n s ≡ Ok tt) (sym own) h
 
 pub record Frame (s : List ℕ) : Type 0 where
   pub long : 72 ≤ length s

@@ -1,6 +1,6 @@
 -- The content of a deck's bytes.
 use Rattle.std.specs.Prelude.{ℕ, zero, suc, ◌+◌, ◌≡◌, List, [], ◌∷◌, map, eqb, get_or}
-use Rattle.deck.specs.declared.DeckAnswer.TheVariants.{Accepted}
+use Rattle.std.specs.Prelude.{Ok}
 use Rattle.deck.specs.declared.forms.Form.{Form}
 use Rattle.deck.specs.declared.forms.Form.TheVariants.{Fields, ListField, FieldList, Unknown}
 use Rattle.deck.specs.Trailer.{part_count, real_of, dropped}
@@ -10,7 +10,7 @@ use Rattle.deck.specs.Deck.{ClassEntry, RoleEntry, InjectedEntry, Fact, role_of,
 
 -- the reader accepts the deck
 abbrev pub IsAccepted : List ℕ → Type 0
-IsAccepted s = deck_answer s ≡ Accepted
+IsAccepted s = deck_answer s ≡ Ok tt
 
 -- f 0, f 1, …: n of them
 unfoldable pub table : {A : Type 0} → (ℕ → A) → ℕ → List A

@@ -1,7 +1,7 @@
 -- What a deck says, whatever its bytes: document 01, section 1. Every definition of the crates above takes this.
 use Rattle.std.specs.Prelude.{ℕ, Bool, true, false, cond, ◌||◌, ◌&&◌, List, [], ◌∷◌, length, get_or, eqb}
-use Rattle.deck.specs.declared.injected.InjectedClass.{InjectedClass}
-use Rattle.deck.specs.declared.injected.InjectedClass.TheVariants.{Found, Absent}
+use Rattle.deck.specs.declared.numbers.ClassId.{ClassId}
+use Rattle.std.specs.Prelude.{Option}
 use Rattle.deck.specs.Numbers.{inverse_word, role_number}
 
 -- classes: "1 if unsatisfiable else 0; row start; row count", the row with its words
@@ -134,6 +134,6 @@ has [] x = false
 has (y ∷ ys) x = eqb y x || has ys x
 
 -- "the injected class for (y, r) is q"
-unfoldable pub injected_class : List InjectedEntry → ℕ → ℕ → InjectedClass
-injected_class [] y r = Absent
-injected_class (x ∷ xs) y r = cond (eqb x.class y && eqb x.role r) (Found (record { 0 = x.filler })) (injected_class xs y r)
+unfoldable pub injected_class : List InjectedEntry → ℕ → ℕ → Option ClassId
+injected_class [] y r = Option.None
+injected_class (x ∷ xs) y r = cond (eqb x.class y && eqb x.role r) (Option.Some (record { 0 = x.filler })) (injected_class xs y r)

@@ -3,8 +3,8 @@ use Rattle.std.specs.Prelude.{ℕ, zero, suc, ◌+◌, Bool, true, false, cond, 
 use mathlib.Core.List.{List, [], ◌∷◌, ◌++◌, flat_map}
 use Rattle.deck.specs.declared.refusal.Refusal.{Refusal}
 use Rattle.deck.specs.declared.refusal.Refusal.TheVariants.{UnknownTag, OutOfRange, FilledField}
-use Rattle.deck.specs.declared.DeckAnswer.{DeckAnswer}
-use Rattle.deck.specs.declared.DeckAnswer.TheVariants.{Accepted, Refused}
+use Rattle.deck.specs.Refusal.{DeckAnswer}
+use Rattle.std.specs.Prelude.{Ok, Err}
 use Rattle.deck.specs.declared.forms.Kind.{Kind}
 use Rattle.deck.specs.declared.forms.Kind.TheVariants.{Zero, Flag, Class, RealClass, Role, RoleWord, Concept, Any}
 use Rattle.deck.specs.declared.forms.Form.{Form}
@@ -67,8 +67,8 @@ faults_of s p k = flat_map (piece_faults s p k)
 
 -- the first of some faults that has a number
 unfoldable pub first_with : ℕ → List Refusal → DeckAnswer
-first_with n [] = Accepted
-first_with n (r ∷ rs) = cond (eqb (number_of r) n) (Refused r) (first_with n rs)
+first_with n [] = Ok tt
+first_with n (r ∷ rs) = cond (eqb (number_of r) n) (Err r) (first_with n rs)
 
 -- "Checks: 12 tag or flag, 13 range, 14 filled field, tested in that order wherever 5 was"
 abbrev pub pied : List Refusal → DeckAnswer
@@ -76,5 +76,5 @@ pied rs = or_else (first_with 12 rs) (or_else (first_with 13 rs) (first_with 14 
 
 -- the first of all: what one walk over the fields finds
 abbrev pub first : List Refusal → DeckAnswer
-first [] = Accepted
-first (r ∷ rs) = Refused r
+first [] = Ok tt
+first (r ∷ rs) = Err r

@@ -1,7 +1,8 @@
 -- What reading an accepted deck gives: each value as the deck has it, with its range.
 use Rattle.std.specs.Prelude.{ℕ, ◌+◌, ◌*◌, ◌<◌, ◌≤◌, ◌≡◌, List}
 use Rattle.deck.specs.declared.rows.Span.{Span}
-use Rattle.deck.specs.declared.injected.InjectedClass.{InjectedClass}
+use Rattle.deck.specs.declared.numbers.ClassId.{ClassId}
+use Rattle.std.specs.Prelude.{Option}
 use Rattle.deck.specs.Parts.{part_word}
 use Rattle.deck.specs.declared.forms.Form.{Form}
 use Rattle.deck.specs.declared.forms.Form.TheVariants.{Fields, ListField, FieldList, Unknown}
@@ -115,11 +116,11 @@ abbrev pub injected_key : List ℕ → ℕ → ℕ
 injected_key s k = part_word s 2 k 0 * 1024 + part_word s 2 k 1
 
 -- a class that was found is real
-abbrev pub RealClass : Deck → InjectedClass → Type 0
-RealClass D (InjectedClass.Found q) = q.0 < D.real
-RealClass D InjectedClass.Absent = Unit {0}
+abbrev pub RealClass : Deck → Option ClassId → Type 0
+RealClass D (Option.Some q) = q.0 < D.real
+RealClass D Option.None = Unit {0}
 
 -- the injected class of (y, r)
-pub record InjectedRead (D : Deck) (y r : ℕ) (q : InjectedClass) : Type 0 where
+pub record InjectedRead (D : Deck) (y r : ℕ) (q : Option ClassId) : Type 0 where
   pub is : q ≡ injected_class D.injected y r
   pub fits : RealClass D q

@@ -1,8 +1,8 @@
 -- The tests 12, 13, 14, 6 and 7 of a record of each part.
 use Rattle.std.specs.Prelude.{ℕ, ◌-◌, List, [], ◌∷◌, Bool, true, ◌&&◌, ◌||◌, eqb, ltb, get_or}
 use Rattle.deck.specs.declared.refusal.Refusal.TheVariants.{BadOrder, ForwardOperand}
-use Rattle.deck.specs.declared.DeckAnswer.{DeckAnswer}
-use Rattle.deck.specs.declared.DeckAnswer.TheVariants.{Accepted}
+use Rattle.deck.specs.Refusal.{DeckAnswer}
+use Rattle.std.specs.Prelude.{Ok}
 use Rattle.deck.specs.declared.forms.Kind.TheVariants.{Zero, Flag, Class, RealClass, Role, RoleWord, Concept, Any}
 use Rattle.deck.specs.declared.forms.Form.{Form}
 use Rattle.deck.specs.declared.forms.Form.TheVariants.{Fields, ListField, FieldList, Unknown}
@@ -143,16 +143,16 @@ record_fault s p k = pied (faults_of s p k (record_pieces s p k))
 
 -- each record is tested for 12, 13, 14, then for 6, then for 7: "operand below C but not below its concept"
 unfoldable pub class_answer : List ℕ → ℕ → DeckAnswer
-class_answer s k = or_else (record_fault s 0 k) (unless (class_order s k) BadOrder Accepted)
+class_answer s k = or_else (record_fault s 0 k) (unless (class_order s k) BadOrder (Ok tt))
 
 unfoldable pub role_answer : List ℕ → ℕ → DeckAnswer
-role_answer s k = or_else (record_fault s 1 k) (unless (role_order s k) BadOrder Accepted)
+role_answer s k = or_else (record_fault s 1 k) (unless (role_order s k) BadOrder (Ok tt))
 
 unfoldable pub injected_answer : List ℕ → ℕ → DeckAnswer
-injected_answer s k = or_else (record_fault s 2 k) (unless (injected_order s k) BadOrder Accepted)
+injected_answer s k = or_else (record_fault s 2 k) (unless (injected_order s k) BadOrder (Ok tt))
 
 unfoldable pub concept_answer : List ℕ → ℕ → DeckAnswer
-concept_answer s k = or_else (record_fault s 3 k) (unless (concept_shape s k k) ForwardOperand Accepted)
+concept_answer s k = or_else (record_fault s 3 k) (unless (concept_shape s k k) ForwardOperand (Ok tt))
 
 unfoldable pub axiom_answer : List ℕ → ℕ → DeckAnswer
 axiom_answer s k = record_fault s 4 k
@@ -165,7 +165,7 @@ abbrev pub record_answers : List ℕ → List (ℕ → DeckAnswer)
 record_answers s = class_answer s ∷ role_answer s ∷ injected_answer s ∷ concept_answer s ∷ axiom_answer s ∷ fact_answer s ∷ []
 
 unfoldable pub record_answer : List ℕ → ℕ → ℕ → DeckAnswer
-record_answer s p = get_or (record_answers s) p (λ k. Accepted)
+record_answer s p = get_or (record_answers s) p (λ k. (Ok tt))
 
 unfoldable pub part_answer : List ℕ → ℕ → DeckAnswer
 part_answer s p = first_refusal (record_answer s p) (part_count s p)

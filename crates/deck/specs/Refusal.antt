@@ -1,7 +1,13 @@
 -- The numbers of the refusals and the word that three of them name: the table of document 01, section 1, and document 02, a).
-use Rattle.std.specs.Prelude.{ℕ}
+use Rattle.std.specs.Prelude.{ℕ, Option, None, Some}
+use Rattle.std.specs.Prelude.{Result}
+use Rattle.deck.specs.declared.numbers.WordIndex.{WordIndex}
 use Rattle.deck.specs.declared.refusal.Refusal.{Refusal}
 use Rattle.deck.specs.declared.refusal.Refusal.TheVariants.{TooShort, UnknownEdition, CountOverLimit, BadLayout, BadOrder, ForwardOperand, BadBounds, ShortBuffer, ForeignStructure, AbsentIndex, UnknownTag, OutOfRange, FilledField}
+
+-- what checking a deck answers: that it is in order, or a refusal
+abbrev pub DeckAnswer : Type 0
+DeckAnswer = Result (Unit {0}) Refusal
 
 -- "no. … given when"; "5 is retired"
 abbrev pub number_of : Refusal → ℕ
@@ -19,22 +25,21 @@ number_of (UnknownTag w) = 12  -- unknown tag or flag
 number_of (OutOfRange w) = 13  -- number or list out of range
 number_of (FilledField w) = 14  -- unused field filled
 
+-- "each also returns the word at which the first fault lies, counted from word 0 of the deck"
+abbrev pub fault_word : Refusal → Option WordIndex
+fault_word (UnknownTag w) = Some w
+fault_word (OutOfRange w) = Some w
+fault_word (FilledField w) = Some w
+fault_word r = None
+
 -- what stands for the word of a refusal that has none: no deck has so many words
 abbrev pub no_word : ℕ
 no_word = 4294967295
 
--- "each also returns the word at which the first fault lies, counted from word 0 of the deck"
+-- the word, or what stands for it
+abbrev pub word_told : Option WordIndex → ℕ
+word_told None = no_word
+word_told (Some w) = w.0
+
 abbrev pub word_of : Refusal → ℕ
-word_of TooShort = no_word
-word_of UnknownEdition = no_word
-word_of CountOverLimit = no_word
-word_of BadLayout = no_word
-word_of BadOrder = no_word
-word_of ForwardOperand = no_word
-word_of BadBounds = no_word
-word_of ShortBuffer = no_word
-word_of ForeignStructure = no_word
-word_of AbsentIndex = no_word
-word_of (UnknownTag w) = w.0
-word_of (OutOfRange w) = w.0
-word_of (FilledField w) = w.0
+word_of r = word_told (fault_word r)

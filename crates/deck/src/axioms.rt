@@ -4,7 +4,7 @@ ghost use Rattle.deck.specs.Content.{IsAccepted, deck_of};
 ghost use Rattle.deck.specs.Deck.{axiom_count};
 ghost use Rattle.deck.specs.Reads.{CountRead, AxiomRead};
 
-use crate::{parts, trailer};
+use crate::accepted::Deck;
 
 // A tag, 0 to 25, and the three fields that the tag gives a meaning.
 #[derive(Clone, Copy)]
@@ -15,12 +15,35 @@ pub struct AxiomRecord {
     pub third: u32,
 }
 
-// A.
+impl Deck<'_> {
+    // A.
+    pub fn axiom_count(&self) -> u32
+        ensures { CountRead (axiom_count (deck_of self.now.bytes.now)) 16384 result }
+    {
+        self.parts().trailer().part_count(4)
+    }
+
+    pub fn axiom_at(&self, axiom: u32) -> AxiomRecord
+        requires axiom_bound { «axiom» < axiom_count (deck_of self.now.bytes.now) }
+        ensures { AxiomRead self.now.bytes.now «axiom» result }
+    {
+        let parts = self.parts();
+        let k = axiom as usize;
+        AxiomRecord {
+            tag: parts.part_word(4, k, 0),
+            first: parts.part_word(4, k, 1),
+            second: parts.part_word(4, k, 2),
+            third: parts.part_word(4, k, 3),
+        }
+    }
+}
+
+// The same over the bytes of an accepted deck.
 pub fn axiom_count(deck: &[u8]) -> u32
     requires { IsAccepted deck.now }
     ensures { CountRead (axiom_count (deck_of deck.now)) 16384 result }
 {
-    trailer::part_count(deck, 4)
+    Deck { bytes: deck }.axiom_count()
 }
 
 pub fn axiom_at(deck: &[u8], axiom: u32) -> AxiomRecord
@@ -28,11 +51,5 @@ pub fn axiom_at(deck: &[u8], axiom: u32) -> AxiomRecord
     requires axiom_bound { «axiom» < axiom_count (deck_of deck.now) }
     ensures { AxiomRead deck.now «axiom» result }
 {
-    let k = axiom as usize;
-    AxiomRecord {
-        tag: parts::part_word(deck, 4, k, 0),
-        first: parts::part_word(deck, 4, k, 1),
-        second: parts::part_word(deck, 4, k, 2),
-        third: parts::part_word(deck, 4, k, 3),
-    }
+    Deck { bytes: deck }.axiom_at(axiom)
 }

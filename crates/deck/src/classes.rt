@@ -4,24 +4,54 @@ ghost use Rattle.deck.specs.Content.{IsAccepted, deck_of};
 ghost use Rattle.deck.specs.Deck.{class_count, class_at};
 ghost use Rattle.deck.specs.Reads.{CountRead, RowRead};
 
+use crate::accepted::Deck;
 use crate::numbers::ClassId;
 use crate::rows::Span;
-use crate::{parts, trailer};
 
-// N.
+impl Deck<'_> {
+    // N.
+    pub fn class_count(&self) -> u32
+        ensures { CountRead (class_count (deck_of self.now.bytes.now)) 4096 result }
+    {
+        self.parts().trailer().part_count(0)
+    }
+
+    // M.
+    pub fn real_count(&self) -> u32
+        ensures { CountRead (deck_of self.now.bytes.now).real (class_count (deck_of self.now.bytes.now)) result }
+    {
+        self.parts().trailer().word(1)
+    }
+
+    pub fn is_unsatisfiable(&self, class: ClassId) -> bool
+        requires class_bound { class.0 < class_count (deck_of self.now.bytes.now) }
+        ensures { result ≡ (class_at (deck_of self.now.bytes.now) class.0).unsatisfiable }
+    {
+        self.parts().part_word(0, class.0 as usize, 0) == 1
+    }
+
+    // The row of a class.
+    pub fn subsumers_of(&self, class: ClassId) -> Span
+        requires class_bound { class.0 < class_count (deck_of self.now.bytes.now) }
+        ensures { RowRead self.now.bytes.now (class_count (deck_of self.now.bytes.now)) (class_at (deck_of self.now.bytes.now) class.0).row 0 class.0 1 result }
+    {
+        self.span(0, class.0 as usize, 1)
+    }
+}
+
+// The same over the bytes of an accepted deck.
 pub fn class_count(deck: &[u8]) -> u32
     requires { IsAccepted deck.now }
     ensures { CountRead (class_count (deck_of deck.now)) 4096 result }
 {
-    trailer::part_count(deck, 0)
+    Deck { bytes: deck }.class_count()
 }
 
-// M.
 pub fn real_count(deck: &[u8]) -> u32
     requires { IsAccepted deck.now }
     ensures { CountRead (deck_of deck.now).real (class_count (deck_of deck.now)) result }
 {
-    trailer::trailer_word(deck, 1)
+    Deck { bytes: deck }.real_count()
 }
 
 pub fn is_unsatisfiable(deck: &[u8], class: ClassId) -> bool
@@ -29,18 +59,13 @@ pub fn is_unsatisfiable(deck: &[u8], class: ClassId) -> bool
     requires class_bound { class.0 < class_count (deck_of deck.now) }
     ensures { result ≡ (class_at (deck_of deck.now) class.0).unsatisfiable }
 {
-    parts::part_word(deck, 0, class.0 as usize, 0) == 1
+    Deck { bytes: deck }.is_unsatisfiable(class)
 }
 
-// The row of a class.
 pub fn subsumers_of(deck: &[u8], class: ClassId) -> Span
     requires accepted { IsAccepted deck.now }
     requires class_bound { class.0 < class_count (deck_of deck.now) }
     ensures { RowRead deck.now (class_count (deck_of deck.now)) (class_at (deck_of deck.now) class.0).row 0 class.0 1 result }
 {
-    let k = class.0 as usize;
-    Span {
-        start: parts::part_word(deck, 0, k, 1),
-        count: parts::part_word(deck, 0, k, 2),
-    }
+    Deck { bytes: deck }.subsumers_of(class)
 }

@@ -5,9 +5,9 @@ ghost use Rattle.deck.specs.Deck.{concept_count};
 ghost use Rattle.deck.specs.Exprs.{expr_at};
 ghost use Rattle.deck.specs.Reads.{CountRead, ConceptRead};
 
+use crate::accepted::Deck;
 use crate::numbers::{ClassId, ConceptId, IndividualId, RoleWord};
 use crate::rows::Span;
-use crate::{parts, trailer};
 
 #[derive(Clone, Copy)]
 pub enum ConceptExpr {
@@ -23,14 +23,6 @@ pub enum ConceptExpr {
     All(RoleWord, ConceptId),
     Min(u32, RoleWord, ConceptId),
     Max(u32, RoleWord, ConceptId),
-}
-
-// C.
-pub fn concept_count(deck: &[u8]) -> u32
-    requires { IsAccepted deck.now }
-    ensures { CountRead (concept_count (deck_of deck.now)) 16384 result }
-{
-    trailer::part_count(deck, 3)
 }
 
 fn expr(tag: u32, x: u32, y: u32, z: u32) -> ConceptExpr
@@ -53,16 +45,41 @@ fn expr(tag: u32, x: u32, y: u32, z: u32) -> ConceptExpr
     }
 }
 
+impl Deck<'_> {
+    // C.
+    pub fn concept_count(&self) -> u32
+        ensures { CountRead (concept_count (deck_of self.now.bytes.now)) 16384 result }
+    {
+        self.parts().trailer().part_count(3)
+    }
+
+    pub fn concept_at(&self, concept: ConceptId) -> ConceptExpr
+        requires concept_bound { concept.0 < concept_count (deck_of self.now.bytes.now) }
+        ensures { ConceptRead self.now.bytes.now concept.0 result }
+    {
+        let parts = self.parts();
+        let k = concept.0 as usize;
+        expr(
+            parts.part_word(3, k, 0),
+            parts.part_word(3, k, 1),
+            parts.part_word(3, k, 2),
+            parts.part_word(3, k, 3),
+        )
+    }
+}
+
+// The same over the bytes of an accepted deck.
+pub fn concept_count(deck: &[u8]) -> u32
+    requires { IsAccepted deck.now }
+    ensures { CountRead (concept_count (deck_of deck.now)) 16384 result }
+{
+    Deck { bytes: deck }.concept_count()
+}
+
 pub fn concept_at(deck: &[u8], concept: ConceptId) -> ConceptExpr
     requires accepted { IsAccepted deck.now }
     requires concept_bound { concept.0 < concept_count (deck_of deck.now) }
     ensures { ConceptRead deck.now concept.0 result }
 {
-    let k = concept.0 as usize;
-    expr(
-        parts::part_word(deck, 3, k, 0),
-        parts::part_word(deck, 3, k, 1),
-        parts::part_word(deck, 3, k, 2),
-        parts::part_word(deck, 3, k, 3),
-    )
+    Deck { bytes: deck }.concept_at(concept)
 }

@@ -4,8 +4,8 @@ ghost use Rattle.deck.specs.Content.{IsAccepted, deck_of};
 ghost use Rattle.deck.specs.Deck.{fact_count};
 ghost use Rattle.deck.specs.Reads.{CountRead, FactRead};
 
+use crate::accepted::Deck;
 use crate::numbers::{ClassId, RoleId};
-use crate::{parts, trailer};
 
 // Each element of class `from` has an edge of the role into class `to`.
 #[derive(Clone, Copy)]
@@ -15,12 +15,41 @@ pub struct FactRecord {
     pub to: ClassId,
 }
 
-// The number of facts.
+impl Deck<'_> {
+    // The number of facts.
+    pub fn fact_count(&self) -> u32
+        ensures { CountRead (fact_count (deck_of self.now.bytes.now)) 16384 result }
+    {
+        self.parts().trailer().part_count(5)
+    }
+
+    pub fn fact_at(&self, fact: u32) -> FactRecord
+        requires fact_bound { fact < fact_count (deck_of self.now.bytes.now) }
+        ensures { FactRead self.now.bytes.now fact result }
+    {
+        let parts = self.parts();
+        let k = fact as usize;
+        FactRecord {
+            from: ClassId(parts.part_word(5, k, 0)),
+            role: RoleId(parts.part_word(5, k, 1)),
+            to: ClassId(parts.part_word(5, k, 2)),
+        }
+    }
+
+    // D.
+    pub fn dropped_count(&self) -> u32
+        ensures { result ≡ (deck_of self.now.bytes.now).dropped }
+    {
+        self.parts().trailer().word(2)
+    }
+}
+
+// The same over the bytes of an accepted deck.
 pub fn fact_count(deck: &[u8]) -> u32
     requires { IsAccepted deck.now }
     ensures { CountRead (fact_count (deck_of deck.now)) 16384 result }
 {
-    trailer::part_count(deck, 5)
+    Deck { bytes: deck }.fact_count()
 }
 
 pub fn fact_at(deck: &[u8], fact: u32) -> FactRecord
@@ -28,18 +57,12 @@ pub fn fact_at(deck: &[u8], fact: u32) -> FactRecord
     requires fact_bound { fact < fact_count (deck_of deck.now) }
     ensures { FactRead deck.now fact result }
 {
-    let k = fact as usize;
-    FactRecord {
-        from: ClassId(parts::part_word(deck, 5, k, 0)),
-        role: RoleId(parts::part_word(deck, 5, k, 1)),
-        to: ClassId(parts::part_word(deck, 5, k, 2)),
-    }
+    Deck { bytes: deck }.fact_at(fact)
 }
 
-// D.
 pub fn dropped_count(deck: &[u8]) -> u32
     requires { IsAccepted deck.now }
     ensures { result ≡ (deck_of deck.now).dropped }
 {
-    trailer::trailer_word(deck, 2)
+    Deck { bytes: deck }.dropped_count()
 }

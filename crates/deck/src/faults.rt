@@ -1,40 +1,17 @@
 // The fault of a record, with its word: looked for only after a test has failed.
 ghost use Rattle.std.specs.Prelude.{◌≡◌, ◌+◌, ◌<◌, ◌≤◌};
-ghost use Rattle.deck.specs.Answer.{Framed, or_else};
 ghost use Rattle.deck.specs.Trailer.{part_count, width_of};
 ghost use Rattle.deck.specs.Parts.{part_place};
-ghost use Rattle.deck.specs.Forms.{counts_of, bounds_of};
 ghost use Rattle.deck.specs.Faults.{fault_of, word_faults, piece_faults, pieces_of, faults_of, first};
 ghost use Rattle.deck.specs.Faults.Piece.{Field, Items};
 ghost use Rattle.deck.specs.Records.{record_fault};
 
 use crate::forms::{
-    Form, Kind, axiom_form, bound, class_form, concept_form, fact_form, field_fits, injected_form,
+    CLASS_FORM, Draft, FACT_FORM, Form, INJECTED_FORM, Kind, axiom_form, concept_form,
 };
 use crate::numbers::WordIndex;
+use crate::parts::Parts;
 use crate::refusal::Refusal;
-use crate::{DeckAnswer, parts};
-
-// The first of two answers that refuses.
-fn or_else(a: DeckAnswer, b: DeckAnswer) -> DeckAnswer
-    ensures { result ≡ or_else a b }
-{
-    if let DeckAnswer::Refused(_) = a {
-        return a;
-    }
-    b
-}
-
-// Where field f of record k of part p stands.
-fn word_index(deck: &[u8], p: usize, k: usize, f: usize) -> WordIndex
-    requires framed { Framed deck.now }
-    requires p_bound { p < 7 }
-    requires k_bound { k < part_count deck.now p }
-    requires f_bound { f < width_of p }
-    ensures { result.0 ≡ part_place deck.now p k f }
-{
-    WordIndex(parts::part_place(deck, p, k, f) as u32)
-}
 
 // What is wrong with a word that is not of its kind.
 fn fault_of(kind: Kind, word: WordIndex) -> Refusal
@@ -43,165 +20,114 @@ fn fault_of(kind: Kind, word: WordIndex) -> Refusal
     match kind {
         Kind::Zero => Refusal::FilledField(word),
         Kind::Flag => Refusal::UnknownTag(word),
-        Kind::Class => Refusal::OutOfRange(word),
-        Kind::RealClass => Refusal::OutOfRange(word),
-        Kind::Role => Refusal::OutOfRange(word),
-        Kind::RoleWord => Refusal::OutOfRange(word),
-        Kind::Concept => Refusal::OutOfRange(word),
-        Kind::Any => Refusal::OutOfRange(word),
+        _ => Refusal::OutOfRange(word),
     }
 }
 
-fn field_fault(
-    deck: &[u8],
-    bounds: &[usize; 8],
-    p: usize,
-    k: usize,
-    f: usize,
-    kind: Kind,
-) -> DeckAnswer
-    requires framed { Framed deck.now }
-    requires bounds_value { bounds.now ≡ bounds_of (counts_of deck.now) }
-    requires p_bound { p < 6 }
-    requires k_bound { k < part_count deck.now p }
-    requires f_bound { f < width_of p }
-    ensures { result ≡ first (piece_faults deck.now p k (Field f kind)) }
-{
-    if field_fits(
-        bounds,
-        parts::count(deck, 3),
-        kind,
-        parts::part_word(deck, p, k, f),
-    ) {
-        return DeckAnswer::Accepted;
+impl Parts<'_> {
+    // Where field f of record k of part p stands.
+    fn word_index(&self, p: usize, k: usize, f: usize) -> WordIndex
+        requires p_bound { p < 7 }
+        requires k_bound { k < part_count self.now.bytes.now p }
+        requires f_bound { f < width_of p }
+        ensures { result.0 ≡ part_place self.now.bytes.now p k f }
+    {
+        WordIndex(self.part_place(p, k, f) as u32)
     }
-    DeckAnswer::Refused(fault_of(kind, word_index(deck, p, k, f)))
-}
 
-// The first word of a row or list within lists that is not below n.
-fn word_fault(deck: &[u8], start: usize, count: usize, n: usize) -> DeckAnswer
-    requires framed { Framed deck.now }
-    requires count_bound { start + count ≤ part_count deck.now 6 }
-    ensures { result ≡ first (word_faults deck.now start n count) }
-{
-    let mut i = 0;
-    while i < count {
-        let at = start + i;
-        if parts::list_word(deck, at) as usize >= n {
-            return DeckAnswer::Refused(Refusal::OutOfRange(word_index(deck, 6, at, 0)));
+    // The first word of a row or list within lists that is not below n.
+    fn word_fault(&self, start: usize, count: usize, n: usize) -> Result<(), Refusal>
+        requires { start + count ≤ part_count self.now.bytes.now 6 }
+        ensures { result ≡ first (word_faults self.now.bytes.now start n count) }
+    {
+        for i in 0..count {
+            let at = start + i;
+            if self.list_word(at) as usize >= n {
+                return Err(Refusal::OutOfRange(self.word_index(6, at, 0)));
+            }
         }
-        i += 1;
-    }
-    DeckAnswer::Accepted
-}
-
-// A row or list whose start is field f, and its count the field after.
-fn items_fault(
-    deck: &[u8],
-    bounds: &[usize; 8],
-    p: usize,
-    k: usize,
-    f: usize,
-    kind: Kind,
-) -> DeckAnswer
-    requires framed { Framed deck.now }
-    requires bounds_value { bounds.now ≡ bounds_of (counts_of deck.now) }
-    requires p_bound { p < 6 }
-    requires k_bound { k < part_count deck.now p }
-    requires f_bound { f + 1 < width_of p }
-    ensures { result ≡ first (piece_faults deck.now p k (Items f kind)) }
-{
-    let next = f + 1;
-    let start = parts::part_word(deck, p, k, f) as usize;
-    let count = parts::part_word(deck, p, k, next) as usize;
-    if start + count <= parts::count(deck, 6) {
-        return word_fault(
-            deck,
-            start,
-            count,
-            bound(bounds, parts::count(deck, 3), kind),
-        );
-    }
-    DeckAnswer::Refused(Refusal::OutOfRange(word_index(deck, p, k, f)))
-}
-
-// The three fields from field f on.
-fn form_fault(
-    deck: &[u8],
-    bounds: &[usize; 8],
-    p: usize,
-    k: usize,
-    f: usize,
-    form: Form,
-) -> DeckAnswer
-    requires framed { Framed deck.now }
-    requires bounds_value { bounds.now ≡ bounds_of (counts_of deck.now) }
-    requires p_bound { p < 6 }
-    requires k_bound { k < part_count deck.now p }
-    requires f_bound { f + 2 < width_of p }
-    ensures { result ≡ first (faults_of deck.now p k (pieces_of f form)) }
-{
-    match form {
-        Form::Fields(a, b, c) => or_else(
-            field_fault(deck, bounds, p, k, f, a),
-            or_else(
-                field_fault(deck, bounds, p, k, f + 1, b),
-                field_fault(deck, bounds, p, k, f + 2, c),
-            ),
-        ),
-        Form::ListField(e, a) => or_else(
-            items_fault(deck, bounds, p, k, f, e),
-            field_fault(deck, bounds, p, k, f + 2, a),
-        ),
-        Form::FieldList(a, e) => or_else(
-            field_fault(deck, bounds, p, k, f, a),
-            items_fault(deck, bounds, p, k, f + 1, e),
-        ),
-        Form::Unknown => DeckAnswer::Refused(Refusal::UnknownTag(word_index(deck, p, k, 0))),
+        Ok(())
     }
 }
 
-// The two rows of a role.
-fn role_fault(deck: &[u8], bounds: &[usize; 8], k: usize) -> DeckAnswer
-    requires framed { Framed deck.now }
-    requires bounds_value { bounds.now ≡ bounds_of (counts_of deck.now) }
-    requires k_bound { k < part_count deck.now 1 }
-    ensures { result ≡ record_fault deck.now 1 k }
-{
-    or_else(
-        items_fault(deck, bounds, 1, k, 0, Kind::Role),
-        items_fault(deck, bounds, 1, k, 2, Kind::Class),
-    )
-}
+impl Draft<'_> {
+    fn field_fault(&self, p: usize, k: usize, f: usize, kind: Kind) -> Result<(), Refusal>
+        requires p_bound { p < 6 }
+        requires k_bound { k < part_count self.now.parts.bytes.now p }
+        requires f_bound { f < width_of p }
+        ensures { result ≡ first (piece_faults self.now.parts.bytes.now p k (Field f kind)) }
+    {
+        let w = self.parts.part_word(p, k, f);
+        if self.field_fits(self.parts.count(3), kind, w) {
+            return Ok(());
+        }
+        Err(fault_of(kind, self.parts.word_index(p, k, f)))
+    }
 
-// The fault of record k of part p.
-pub fn record_fault(deck: &[u8], bounds: &[usize; 8], p: usize, k: usize) -> DeckAnswer
-    requires framed { Framed deck.now }
-    requires bounds_value { bounds.now ≡ bounds_of (counts_of deck.now) }
-    requires p_bound { p < 6 }
-    requires k_bound { k < part_count deck.now p }
-    ensures { result ≡ record_fault deck.now p k }
-{
-    match p {
-        0 => form_fault(deck, bounds, 0, k, 0, class_form()),
-        1 => role_fault(deck, bounds, k),
-        2 => form_fault(deck, bounds, 2, k, 0, injected_form()),
-        3 => form_fault(
-            deck,
-            bounds,
-            3,
-            k,
-            1,
-            concept_form(parts::part_word(deck, 3, k, 0)),
-        ),
-        4 => form_fault(
-            deck,
-            bounds,
-            4,
-            k,
-            1,
-            axiom_form(parts::part_word(deck, 4, k, 0)),
-        ),
-        _ => form_fault(deck, bounds, 5, k, 0, fact_form()),
+    // A row or list whose start is field f, and its count the field after.
+    fn items_fault(&self, p: usize, k: usize, f: usize, kind: Kind) -> Result<(), Refusal>
+        requires p_bound { p < 6 }
+        requires k_bound { k < part_count self.now.parts.bytes.now p }
+        requires f_bound { f + 1 < width_of p }
+        ensures { result ≡ first (piece_faults self.now.parts.bytes.now p k (Items f kind)) }
+    {
+        let next = f + 1;
+        let start = self.parts.part_word(p, k, f) as usize;
+        let count = self.parts.part_word(p, k, next) as usize;
+        if start + count <= self.parts.count(6) {
+            let bound = self.bound(self.parts.count(3), kind);
+            return self.parts.word_fault(start, count, bound);
+        }
+        Err(Refusal::OutOfRange(self.parts.word_index(p, k, f)))
+    }
+
+    // The three fields from field f on.
+    fn form_fault(&self, p: usize, k: usize, f: usize, form: Form) -> Result<(), Refusal>
+        requires p_bound { p < 6 }
+        requires k_bound { k < part_count self.now.parts.bytes.now p }
+        requires f_bound { f + 2 < width_of p }
+        ensures { result ≡ first (faults_of self.now.parts.bytes.now p k (pieces_of f form)) }
+    {
+        match form {
+            Form::Fields(a, b, c) => {
+                self.field_fault(p, k, f, a)?;
+                self.field_fault(p, k, f + 1, b)?;
+                self.field_fault(p, k, f + 2, c)
+            }
+            Form::ListField(e, a) => {
+                self.items_fault(p, k, f, e)?;
+                self.field_fault(p, k, f + 2, a)
+            }
+            Form::FieldList(a, e) => {
+                self.field_fault(p, k, f, a)?;
+                self.items_fault(p, k, f + 1, e)
+            }
+            Form::Unknown => Err(Refusal::UnknownTag(self.parts.word_index(p, k, 0))),
+        }
+    }
+
+    // The two rows of a role.
+    fn role_fault(&self, k: usize) -> Result<(), Refusal>
+        requires { k < part_count self.now.parts.bytes.now 1 }
+        ensures { result ≡ record_fault self.now.parts.bytes.now 1 k }
+    {
+        self.items_fault(1, k, 0, Kind::Role)?;
+        self.items_fault(1, k, 2, Kind::Class)
+    }
+
+    // The fault of record k of part p.
+    pub fn record_fault(&self, p: usize, k: usize) -> Result<(), Refusal>
+        requires p_bound { p < 6 }
+        requires k_bound { k < part_count self.now.parts.bytes.now p }
+        ensures { result ≡ record_fault self.now.parts.bytes.now p k }
+    {
+        match p {
+            0 => self.form_fault(0, k, 0, CLASS_FORM),
+            1 => self.role_fault(k),
+            2 => self.form_fault(2, k, 0, INJECTED_FORM),
+            3 => self.form_fault(3, k, 1, concept_form(self.parts.part_word(3, k, 0))),
+            4 => self.form_fault(4, k, 1, axiom_form(self.parts.part_word(4, k, 0))),
+            _ => self.form_fault(5, k, 0, FACT_FORM),
+        }
     }
 }

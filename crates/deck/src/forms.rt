@@ -1,13 +1,15 @@
 // What the fields of a record hold, and the test of it.
-ghost use Rattle.std.specs.Prelude.{◌≡◌, ◌<◌};
-ghost use Rattle.deck.specs.Answer.{Framed};
-ghost use Rattle.deck.specs.Forms.{counts_of, bound_of, bounds_of, counts_at, AreBounds, place_of, fits, fields_fit, field_list_fits, words_fit};
-ghost use Rattle.deck.specs.Records.{class_form, injected_form, fact_form, concept_form, axiom_form};
+ghost use Rattle.std.specs.Prelude.{◌≡◌, ◌+◌, ◌<◌};
+ghost use Rattle.deck.specs.Trailer.{part_count, width_of};
+ghost use Rattle.deck.specs.Parts.{part_word};
+ghost use Rattle.deck.specs.Rows.{row_shape};
+ghost use Rattle.deck.specs.Forms.{counts_of, bound_of, bounds_of, fits, form_shape};
+ghost use Rattle.deck.specs.Records.{concept_form, axiom_form};
 
-use crate::{parts, rows};
+use crate::parts::Parts;
 
 // A field: nothing, a flag, a number of something, or any word.
-#[derive(Clone, Copy)]
+#[derive(Clone, Copy, Debug, PartialEq, Eq)]
 pub enum Kind {
     Zero,
     Flag,
@@ -21,7 +23,7 @@ pub enum Kind {
 
 // Three fields: a field each, or a list (start and count) before or after a field.
 // An unknown tag has no form.
-#[derive(Clone, Copy)]
+#[derive(Clone, Copy, Debug, PartialEq, Eq)]
 pub enum Form {
     Fields(Kind, Kind, Kind),
     ListField(Kind, Kind),
@@ -29,23 +31,11 @@ pub enum Form {
     Unknown,
 }
 
-pub fn class_form() -> Form
-    ensures { result ≡ class_form }
-{
-    Form::FieldList(Kind::Flag, Kind::Class)
-}
+pub const CLASS_FORM: Form = Form::FieldList(Kind::Flag, Kind::Class);
 
-pub fn injected_form() -> Form
-    ensures { result ≡ injected_form }
-{
-    Form::Fields(Kind::Class, Kind::Role, Kind::RealClass)
-}
+pub const INJECTED_FORM: Form = Form::Fields(Kind::Class, Kind::Role, Kind::RealClass);
 
-pub fn fact_form() -> Form
-    ensures { result ≡ fact_form }
-{
-    Form::Fields(Kind::Class, Kind::Role, Kind::Class)
-}
+pub const FACT_FORM: Form = Form::Fields(Kind::Class, Kind::Role, Kind::Class);
 
 // The fields of a concept, by its tag.
 pub fn concept_form(tag: u32) -> Form
@@ -103,138 +93,95 @@ pub fn axiom_form(tag: u32) -> Form
     }
 }
 
-// What words of each kind but concepts are below, by the place of the kind.
-pub fn bounds_of(deck: &[u8]) -> [usize; 8]
-    requires { Framed deck.now }
-    ensures { result ≡ bounds_of (counts_of deck.now) }
-{
-    let roles = parts::count(deck, 1);
-    [
-        1,
-        2,
-        parts::count(deck, 0),
-        parts::real(deck),
-        roles,
-        2 * roles,
-        0,
-        4294967296,
-    ]
+// A deck whose records are being tested: its parts, and what words of each kind but concepts are below,
+// by the kind's number.
+#[derive(Clone, Copy)]
+pub struct Draft<'a> {
+    pub parts: Parts<'a>,
+    bounds: [usize; 8],
+    ghost are_bounds: { bounds ≡ bounds_of (counts_of parts.bytes.now) },
 }
 
-fn place(kind: Kind) -> usize
-    ensures { (result ≡ place_of kind) × (result < 8) }
-{
-    match kind {
-        Kind::Zero => 0,
-        Kind::Flag => 1,
-        Kind::Class => 2,
-        Kind::RealClass => 3,
-        Kind::Role => 4,
-        Kind::RoleWord => 5,
-        Kind::Concept => 6,
-        Kind::Any => 7,
+impl<'a> Draft<'a> {
+    pub fn new(parts: Parts<'a>) -> Draft<'a>
+        ensures { result.parts.bytes.now ≡ parts.entry.bytes.now }
+    {
+        let roles = parts.count(1);
+        let bounds = [
+            1,
+            2,
+            parts.count(0),
+            parts.real(),
+            roles,
+            2 * roles,
+            0,
+            4294967296,
+        ];
+        Draft { parts, bounds }
     }
-}
 
-// What a word of a kind is below, where concepts are below `concepts`.
-pub fn bound(bounds: &[usize; 8], concepts: usize, kind: Kind) -> usize
-    requires { AreBounds bounds.now }
-    ensures { result ≡ bound_of (counts_at bounds.now) concepts kind }
-{
-    let i = place(kind);
-    if i == 6 { concepts } else { bounds[i] }
-}
-
-// Whether a word is of a kind.
-pub fn field_fits(bounds: &[usize; 8], concepts: usize, kind: Kind, w: u32) -> bool
-    requires { AreBounds bounds.now }
-    ensures { result ≡ fits (counts_at bounds.now) concepts kind w }
-{
-    (w as usize) < bound(bounds, concepts, kind)
-}
-
-// Whether three words are of three kinds.
-pub fn fields_fit(
-    bounds: &[usize; 8],
-    concepts: usize,
-    a: Kind,
-    b: Kind,
-    c: Kind,
-    x: u32,
-    y: u32,
-    z: u32,
-) -> bool
-    requires { AreBounds bounds.now }
-    ensures { result ≡ fields_fit (counts_at bounds.now) concepts a b c x y z }
-{
-    if !field_fits(bounds, concepts, a, x) {
-        return false;
+    // What a word of a kind is below, where concepts are below `concepts`.
+    pub fn bound(&self, concepts: usize, kind: Kind) -> usize
+        ensures { result ≡ bound_of (counts_of self.now.parts.bytes.now) concepts kind }
+    {
+        if kind == Kind::Concept {
+            return concepts;
+        }
+        self.bounds[kind as usize]
     }
-    if !field_fits(bounds, concepts, b, y) {
-        return false;
-    }
-    field_fits(bounds, concepts, c, z)
-}
 
-// Whether a word, and the words of a list, are of two kinds.
-pub fn field_list_fits(
-    deck: &[u8],
-    bounds: &[usize; 8],
-    concepts: usize,
-    a: Kind,
-    e: Kind,
-    x: u32,
-    start: u32,
-    count: u32,
-) -> bool
-    requires framed { Framed deck.now }
-    requires are_bounds { AreBounds bounds.now }
-    ensures { result ≡ field_list_fits deck.now (counts_at bounds.now) concepts a e x start count }
-{
-    if !field_fits(bounds, concepts, a, x) {
-        return false;
+    // Whether a word is of a kind.
+    pub fn field_fits(&self, concepts: usize, kind: Kind, w: u32) -> bool
+        ensures { result ≡ fits (counts_of self.now.parts.bytes.now) concepts kind w }
+    {
+        (w as usize) < self.bound(concepts, kind)
     }
-    rows::row_shape(deck, start, count, bound(bounds, concepts, e))
-}
 
-// Whether three words are of a form.
-pub fn words_fit(
-    deck: &[u8],
-    bounds: &[usize; 8],
-    concepts: usize,
-    form: Form,
-    x: u32,
-    y: u32,
-    z: u32,
-) -> bool
-    requires framed { Framed deck.now }
-    requires are_bounds { AreBounds bounds.now }
-    ensures { result ≡ words_fit deck.now (counts_at bounds.now) concepts form x y z }
-{
-    match form {
-        Form::Fields(a, b, c) => fields_fit(bounds, concepts, a, b, c, x, y, z),
-        Form::ListField(e, a) => field_list_fits(deck, bounds, concepts, a, e, z, x, y),
-        Form::FieldList(a, e) => field_list_fits(deck, bounds, concepts, a, e, x, y, z),
-        Form::Unknown => false,
+    // Whether field f of record k of part p is of a kind.
+    fn field_at_fits(&self, p: usize, k: usize, f: usize, concepts: usize, kind: Kind) -> bool
+        requires p_bound { p < 6 }
+        requires k_bound { k < part_count self.now.parts.bytes.now p }
+        requires f_bound { f < width_of p }
+        ensures { result ≡ fits (counts_of self.now.parts.bytes.now) concepts kind (part_word self.now.parts.bytes.now p k f) }
+    {
+        self.field_fits(concepts, kind, self.parts.part_word(p, k, f))
     }
-}
 
-// The same, for many records: short enough to be compiled where it is called, but for lists.
-pub fn form_fits(
-    deck: &[u8],
-    bounds: &[usize; 8],
-    concepts: usize,
-    form: Form,
-    x: u32,
-    y: u32,
-    z: u32,
-) -> bool
-    requires framed { Framed deck.now }
-    requires are_bounds { AreBounds bounds.now }
-    ensures { result ≡ words_fit deck.now (counts_at bounds.now) concepts form x y z }
-{
-    if let Form::Fields(a, b, c) = form {
-        return fields_fit(bounds, concepts, a, b, c, x, y, z);
+    // Whether the list whose start is field f, and its count the field after, lies within lists, its words of a kind.
+    fn list_at_fits(&self, p: usize, k: usize, f: usize, concepts: usize, kind: Kind) -> bool
+        requires p_bound { p < 6 }
+        requires k_bound { k < part_count self.now.parts.bytes.now p }
+        requires f_bound { f + 1 < width_of p }
+        ensures { result ≡ row_shape self.now.parts.bytes.now (part_word self.now.parts.bytes.now p k f) (part_word self.now.parts.bytes.now p k (f + 1)) (bound_of (counts_of self.now.parts.bytes.now) concepts kind) }
+    {
+        let start = self.parts.part_word(p, k, f);
+        let count = self.parts.part_word(p, k, f + 1);
+        self.parts
+            .row_shape(start, count, self.bound(concepts, kind))
     }
-    words_fit(deck, bounds, concepts, form, x, y, z)
+
+    // Whether the three fields from field f on are of a form, where concepts are below `concepts`.
+    pub fn form_fits(&self, p: usize, k: usize, f: usize, concepts: usize, form: Form) -> bool
+        requires p_bound { p < 6 }
+        requires k_bound { k < part_count self.now.parts.bytes.now p }
+        requires f_bound { f + 2 < width_of p }
+        ensures { result ≡ form_shape self.now.parts.bytes.now p k f concepts form }
+    {
+        match form {
+            Form::Fields(a, b, c) => {
+                self.field_at_fits(p, k, f, concepts, a)
+                    && self.field_at_fits(p, k, f + 1, concepts, b)
+                    && self.field_at_fits(p, k, f + 2, concepts, c)
+            }
+            Form::ListField(e, a) => {
+                self.field_at_fits(p, k, f + 2, concepts, a)
+                    && self.list_at_fits(p, k, f, concepts, e)
+            }
+            Form::FieldList(a, e) => {
+                self.field_at_fits(p, k, f, concepts, a)
+                    && self.list_at_fits(p, k, f + 1, concepts, e)
+            }
+            Form::Unknown => false,
+        }
+    }
 }

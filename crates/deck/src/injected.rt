@@ -5,45 +5,51 @@ ghost use Rattle.deck.specs.Deck.{class_count, role_count, injected_class};
 ghost use Rattle.deck.specs.Trailer.{part_count};
 ghost use Rattle.deck.specs.Reads.{InjectedRead, injected_key};
 
+use crate::accepted::Deck;
 use crate::numbers::{ClassId, RoleId};
-use crate::parts;
 
-#[derive(Clone, Copy)]
-pub enum InjectedClass {
-    Found(ClassId),
-    Absent,
+impl Deck<'_> {
+    // The order of the records: by class, then by role.
+    fn key(&self, k: usize) -> u32
+        requires k_bound { k < part_count self.now.bytes.now 2 }
+        ensures { result ≡ injected_key self.now.bytes.now k }
+    {
+        let parts = self.parts();
+        parts.part_word(2, k, 0) * 1024 + parts.part_word(2, k, 1)
+    }
+
+    // The class q of the record (y, r, q), found by halving.
+    pub fn injected_class(&self, y: ClassId, r: RoleId) -> Option<ClassId>
+        requires y_bound { y.0 < class_count (deck_of self.now.bytes.now) }
+        requires r_bound { r.0 < role_count (deck_of self.now.bytes.now) }
+        ensures { InjectedRead (deck_of self.now.bytes.now) y.0 r.0 result }
+    {
+        let parts = self.parts();
+        let x = y.0 * 1024 + r.0;
+        let mut lo = 0;
+        let mut hi = parts.count(2);
+        while lo < hi {
+            let mid = lo + (hi - lo) / 2;
+            let at = self.key(mid);
+            if at == x {
+                return Some(ClassId(parts.part_word(2, mid, 2)));
+            }
+            if at < x {
+                lo = mid + 1;
+            } else {
+                hi = mid;
+            }
+        }
+        None
+    }
 }
 
-// The order of the records: by class, then by role.
-fn key(deck: &[u8], k: usize) -> u32
-    requires accepted { IsAccepted deck.now }
-    requires k_bound { k < part_count deck.now 2 }
-    ensures { result ≡ injected_key deck.now k }
-{
-    parts::part_word(deck, 2, k, 0) * 1024 + parts::part_word(deck, 2, k, 1)
-}
-
-// The class q of the record (y, r, q), found by halving.
-pub fn injected_class(deck: &[u8], y: ClassId, r: RoleId) -> InjectedClass
+// The same over the bytes of an accepted deck.
+pub fn injected_class(deck: &[u8], y: ClassId, r: RoleId) -> Option<ClassId>
     requires accepted { IsAccepted deck.now }
     requires y_bound { y.0 < class_count (deck_of deck.now) }
     requires r_bound { r.0 < role_count (deck_of deck.now) }
     ensures { InjectedRead (deck_of deck.now) y.0 r.0 result }
 {
-    let x = y.0 * 1024 + r.0;
-    let mut lo = 0;
-    let mut hi = parts::count(deck, 2);
-    while lo < hi {
-        let mid = lo + (hi - lo) / 2;
-        let at = key(deck, mid);
-        if at == x {
-            return InjectedClass::Found(ClassId(parts::part_word(deck, 2, mid, 2)));
-        }
-        if at < x {
-            lo = mid + 1;
-        } else {
-            hi = mid;
-        }
-    }
-    InjectedClass::Absent
+    Deck { bytes: deck }.injected_class(y, r)
 }

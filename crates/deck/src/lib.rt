@@ -1,6 +1,7 @@
 // Reads and checks a deck: document 01, section 1.
 #![tactic(auto)]
 
+mod accepted;
 pub mod axioms;
 pub mod classes;
 pub mod concepts;
@@ -21,44 +22,39 @@ ghost use Rattle.std.specs.Prelude.{◌≡◌};
 ghost use Rattle.deck.specs.Answer.{trailer_answer};
 ghost use Rattle.deck.specs.Records.{deck_answer};
 
+use crate::forms::Draft;
+use crate::parts::Parts;
 use crate::refusal::Refusal;
-
-#[derive(Clone, Copy)]
-pub enum DeckAnswer {
-    Accepted,
-    Refused(Refusal),
-}
+use crate::trailer::Trailer;
+pub use accepted::Deck;
 
 // The tests 1 to 4, for a reader of an edition.
-fn check_trailer(deck: &[u8], edition: u32) -> DeckAnswer
+fn check_trailer(deck: &[u8], edition: u32) -> Result<(), Refusal>
     ensures { result ≡ trailer_answer edition deck.now }
 {
     if deck.len() % 4 != 0 {
-        return DeckAnswer::Refused(Refusal::TooShort);
+        return Err(Refusal::TooShort);
     }
     if deck.len() < 72 {
-        return DeckAnswer::Refused(Refusal::TooShort);
+        return Err(Refusal::TooShort);
     }
-    if trailer::trailer_word(deck, 0) != edition {
-        return DeckAnswer::Refused(Refusal::UnknownEdition);
+    let trailer = Trailer { bytes: deck };
+    if trailer.word(0) != edition {
+        return Err(Refusal::UnknownEdition);
     }
-    if !trailer::counts_fit(deck) {
-        return DeckAnswer::Refused(Refusal::CountOverLimit);
+    if !trailer.counts_fit() {
+        return Err(Refusal::CountOverLimit);
     }
-    if !trailer::layout_fits(deck) {
-        return DeckAnswer::Refused(Refusal::BadLayout);
+    if !trailer.layout_fits() {
+        return Err(Refusal::BadLayout);
     }
-    DeckAnswer::Accepted
+    Ok(())
 }
 
 // Whether the deck is in order, and if not the first refusal.
-pub fn check_deck(deck: &[u8]) -> DeckAnswer
+pub fn check_deck(deck: &[u8]) -> Result<(), Refusal>
     ensures { result ≡ deck_answer deck.now }
 {
-    let answer = check_trailer(deck, 1);
-    if let DeckAnswer::Refused(_) = answer {
-        return answer;
-    }
-    let bounds = forms::bounds_of(deck);
-    records::records_answer(deck, &bounds)
+    check_trailer(deck, 1)?;
+    Draft::new(Parts { bytes: deck }).records_answer()
 }

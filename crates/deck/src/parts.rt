@@ -4,52 +4,63 @@ ghost use Rattle.deck.specs.Answer.{Framed};
 ghost use Rattle.deck.specs.Trailer.{part_count, width_of, real_of};
 ghost use Rattle.deck.specs.Parts.{part_place, part_word, list_word};
 
-use crate::{trailer, words};
+use crate::trailer::{Trailer, width};
+use crate::words;
 
-// How many records part p has.
-pub fn count(deck: &[u8], p: usize) -> usize
-    requires framed { Framed deck.now }
-    requires p_bound { p < 7 }
-    ensures { result ≡ part_count deck.now p }
-{
-    trailer::part_count(deck, p) as usize
+// The bytes of a deck whose trailer is in order: its parts lie where that says.
+#[derive(Clone, Copy)]
+pub struct Parts<'a> {
+    pub bytes: &'a [u8],
+    pub ghost framed: { Framed bytes.now },
 }
 
-// How many classes are real.
-pub fn real(deck: &[u8]) -> usize
-    requires { Framed deck.now }
-    ensures { result ≡ real_of deck.now }
-{
-    trailer::trailer_word(deck, 1) as usize
-}
+impl<'a> Parts<'a> {
+    pub fn trailer(&self) -> Trailer<'a>
+        ensures { result.bytes.now ≡ self.now.bytes.now }
+    {
+        Trailer { bytes: self.bytes }
+    }
 
-// The place of field f of record k of part p, counted in words from word 0.
-pub fn part_place(deck: &[u8], p: usize, k: usize, f: usize) -> usize
-    requires framed { Framed deck.now }
-    requires p_bound { p < 7 }
-    requires k_bound { k < part_count deck.now p }
-    requires f_bound { f < width_of p }
-    ensures { result ≡ part_place deck.now p k f }
-{
-    trailer::part_start(deck, p) as usize + k * trailer::width(p) + f
-}
+    // How many records part p has.
+    pub fn count(&self, p: usize) -> usize
+        requires { p < 7 }
+        ensures { result ≡ part_count self.now.bytes.now p }
+    {
+        self.trailer().part_count(p) as usize
+    }
 
-// Field f of record k of part p.
-pub fn part_word(deck: &[u8], p: usize, k: usize, f: usize) -> u32
-    requires framed { Framed deck.now }
-    requires p_bound { p < 7 }
-    requires k_bound { k < part_count deck.now p }
-    requires f_bound { f < width_of p }
-    ensures { result ≡ part_word deck.now p k f }
-{
-    words::word(deck, part_place(deck, p, k, f))
-}
+    // How many classes are real.
+    pub fn real(&self) -> usize
+        ensures { result ≡ real_of self.now.bytes.now }
+    {
+        self.trailer().word(1) as usize
+    }
 
-// A word of lists.
-pub fn list_word(deck: &[u8], i: usize) -> u32
-    requires framed { Framed deck.now }
-    requires i_bound { i < part_count deck.now 6 }
-    ensures { result ≡ list_word deck.now i }
-{
-    part_word(deck, 6, i, 0)
+    // The place of field f of record k of part p, counted in words from word 0.
+    pub fn part_place(&self, p: usize, k: usize, f: usize) -> usize
+        requires p_bound { p < 7 }
+        requires k_bound { k < part_count self.now.bytes.now p }
+        requires f_bound { f < width_of p }
+        ensures { result ≡ part_place self.now.bytes.now p k f }
+    {
+        self.trailer().part_start(p) as usize + k * width(p) + f
+    }
+
+    // Field f of record k of part p.
+    pub fn part_word(&self, p: usize, k: usize, f: usize) -> u32
+        requires p_bound { p < 7 }
+        requires k_bound { k < part_count self.now.bytes.now p }
+        requires f_bound { f < width_of p }
+        ensures { result ≡ part_word self.now.bytes.now p k f }
+    {
+        words::word(self.bytes, self.part_place(p, k, f))
+    }
+
+    // A word of lists.
+    pub fn list_word(&self, i: usize) -> u32
+        requires { i < part_count self.now.bytes.now 6 }
+        ensures { result ≡ list_word self.now.bytes.now i }
+    {
+        self.part_word(6, i, 0)
+    }
 }

@@ -1,304 +1,210 @@
 // The tests 12, 13, 14, 6 and 7 of a record of each part, and of all records in part order.
 ghost use Rattle.std.specs.Prelude.{◌≡◌, true, false, ◌<◌};
-ghost use Rattle.deck.specs.Answer.{Framed, first_refusal};
+ghost use Rattle.deck.specs.Answer.{first_refusal, unless};
 ghost use Rattle.deck.specs.Trailer.{part_count};
-ghost use Rattle.deck.specs.Forms.{counts_of, bounds_of};
 ghost use Rattle.deck.specs.Records.{class_shape, class_order, class_answer, role_shape, role_order, role_answer};
 ghost use Rattle.deck.specs.Records.{injected_order, injected_answer, concept_shape, concept_answer, axiom_answer, fact_answer};
 ghost use Rattle.deck.specs.Records.{record_answer, part_answer};
+ghost use Rattle.deck.specs.declared.refusal.Refusal.TheVariants.{BadOrder};
 
-use crate::faults::record_fault;
-use crate::forms::{
-    Kind, axiom_form, concept_form, field_list_fits, fields_fit, form_fits, words_fit,
-};
+use crate::forms::{CLASS_FORM, Draft, FACT_FORM, INJECTED_FORM, axiom_form, concept_form};
+use crate::parts::Parts;
 use crate::refusal::Refusal;
-use crate::{DeckAnswer, parts, rows};
 
-// A satisfiable class is in its own row, which rises.
-fn class_order(deck: &[u8], k: usize) -> bool
-    requires framed { Framed deck.now }
-    requires k_bound { k < part_count deck.now 0 }
-    requires k_value { class_shape deck.now k ≡ true }
-    ensures { result ≡ class_order deck.now k }
+// Refused with BadOrder, unless the order is kept.
+fn in_order(kept: bool) -> Result<(), Refusal>
+    ensures { result ≡ unless kept BadOrder (Ok tt) }
 {
-    let start = parts::part_word(deck, 0, k, 1) as usize;
-    let count = parts::part_word(deck, 0, k, 2) as usize;
-    if !rows::row_rises(deck, start, count) {
-        return false;
-    }
-    if parts::part_word(deck, 0, k, 0) == 1 {
-        return true;
-    }
-    rows::find(deck, start, count, k)
+    if kept { Ok(()) } else { Err(Refusal::BadOrder) }
 }
 
-fn class_answer(deck: &[u8], bounds: &[usize; 8], k: usize) -> DeckAnswer
-    requires framed { Framed deck.now }
-    requires bounds_value { bounds.now ≡ bounds_of (counts_of deck.now) }
-    requires k_bound { k < part_count deck.now 0 }
-    ensures { result ≡ class_answer deck.now k }
-{
-    if !field_list_fits(
-        deck,
-        bounds,
-        0,
-        Kind::Flag,
-        Kind::Class,
-        parts::part_word(deck, 0, k, 0),
-        parts::part_word(deck, 0, k, 1),
-        parts::part_word(deck, 0, k, 2),
-    ) {
-        return record_fault(deck, bounds, 0, k);
-    }
-    if !class_order(deck, k) {
-        return DeckAnswer::Refused(Refusal::BadOrder);
-    }
-    DeckAnswer::Accepted
-}
-
-// Both rows of a role lie within lists, and their words are roles and classes.
-fn role_shape(deck: &[u8], k: usize) -> bool
-    requires framed { Framed deck.now }
-    requires k_bound { k < part_count deck.now 1 }
-    ensures { result ≡ role_shape deck.now k }
-{
-    if !rows::row_shape(
-        deck,
-        parts::part_word(deck, 1, k, 0),
-        parts::part_word(deck, 1, k, 1),
-        parts::count(deck, 1),
-    ) {
-        return false;
-    }
-    rows::row_shape(
-        deck,
-        parts::part_word(deck, 1, k, 2),
-        parts::part_word(deck, 1, k, 3),
-        parts::count(deck, 0),
-    )
-}
-
-// Both rows rise, and the role is in its own sub-role row.
-fn role_order(deck: &[u8], k: usize) -> bool
-    requires framed { Framed deck.now }
-    requires k_bound { k < part_count deck.now 1 }
-    requires k_value { role_shape deck.now k ≡ true }
-    ensures { result ≡ role_order deck.now k }
-{
-    let start = parts::part_word(deck, 1, k, 0) as usize;
-    let count = parts::part_word(deck, 1, k, 1) as usize;
-    if !rows::row_rises(deck, start, count) {
-        return false;
-    }
-    if !rows::row_rises(
-        deck,
-        parts::part_word(deck, 1, k, 2) as usize,
-        parts::part_word(deck, 1, k, 3) as usize,
-    ) {
-        return false;
-    }
-    rows::find(deck, start, count, k)
-}
-
-fn role_answer(deck: &[u8], bounds: &[usize; 8], k: usize) -> DeckAnswer
-    requires framed { Framed deck.now }
-    requires bounds_value { bounds.now ≡ bounds_of (counts_of deck.now) }
-    requires k_bound { k < part_count deck.now 1 }
-    ensures { result ≡ role_answer deck.now k }
-{
-    if !role_shape(deck, k) {
-        return record_fault(deck, bounds, 1, k);
-    }
-    if !role_order(deck, k) {
-        return DeckAnswer::Refused(Refusal::BadOrder);
-    }
-    DeckAnswer::Accepted
-}
-
-// The class and the role are above those of the record before.
-fn injected_order(deck: &[u8], k: usize) -> bool
-    requires framed { Framed deck.now }
-    requires k_bound { k < part_count deck.now 2 }
-    ensures { result ≡ injected_order deck.now k }
-{
-    if k == 0 {
-        return true;
-    }
-    let before = parts::part_word(deck, 2, k - 1, 0);
-    let class = parts::part_word(deck, 2, k, 0);
-    if before < class {
-        return true;
-    }
-    if before != class {
-        return false;
-    }
-    parts::part_word(deck, 2, k - 1, 1) < parts::part_word(deck, 2, k, 1)
-}
-
-fn injected_answer(deck: &[u8], bounds: &[usize; 8], k: usize) -> DeckAnswer
-    requires framed { Framed deck.now }
-    requires bounds_value { bounds.now ≡ bounds_of (counts_of deck.now) }
-    requires k_bound { k < part_count deck.now 2 }
-    ensures { result ≡ injected_answer deck.now k }
-{
-    if !fields_fit(
-        bounds,
-        0,
-        Kind::Class,
-        Kind::Role,
-        Kind::RealClass,
-        parts::part_word(deck, 2, k, 0),
-        parts::part_word(deck, 2, k, 1),
-        parts::part_word(deck, 2, k, 2),
-    ) {
-        return record_fault(deck, bounds, 2, k);
-    }
-    if !injected_order(deck, k) {
-        return DeckAnswer::Refused(Refusal::BadOrder);
-    }
-    DeckAnswer::Accepted
-}
-
-// A concept that does not fit where operands are below it: whether it would where they are below C.
-fn concept_refusal(deck: &[u8], bounds: &[usize; 8], k: usize) -> DeckAnswer
-    requires framed { Framed deck.now }
-    requires bounds_value { bounds.now ≡ bounds_of (counts_of deck.now) }
-    requires k_bound { k < part_count deck.now 3 }
-    requires k_value { concept_shape deck.now k k ≡ false }
-    ensures { result ≡ concept_answer deck.now k }
-{
-    let form = concept_form(parts::part_word(deck, 3, k, 0));
-    if words_fit(
-        deck,
-        bounds,
-        parts::count(deck, 3),
-        form,
-        parts::part_word(deck, 3, k, 1),
-        parts::part_word(deck, 3, k, 2),
-        parts::part_word(deck, 3, k, 3),
-    ) {
-        DeckAnswer::Refused(Refusal::ForwardOperand)
-    } else {
-        record_fault(deck, bounds, 3, k)
-    }
-}
-
-// Operands that are below the concept are below C too, so a good list is gone through once.
-fn concept_answer(deck: &[u8], bounds: &[usize; 8], k: usize) -> DeckAnswer
-    requires framed { Framed deck.now }
-    requires bounds_value { bounds.now ≡ bounds_of (counts_of deck.now) }
-    requires k_bound { k < part_count deck.now 3 }
-    ensures { result ≡ concept_answer deck.now k }
-{
-    let form = concept_form(parts::part_word(deck, 3, k, 0));
-    if form_fits(
-        deck,
-        bounds,
-        k,
-        form,
-        parts::part_word(deck, 3, k, 1),
-        parts::part_word(deck, 3, k, 2),
-        parts::part_word(deck, 3, k, 3),
-    ) {
-        DeckAnswer::Accepted
-    } else {
-        concept_refusal(deck, bounds, k)
-    }
-}
-
-fn axiom_answer(deck: &[u8], bounds: &[usize; 8], k: usize) -> DeckAnswer
-    requires framed { Framed deck.now }
-    requires bounds_value { bounds.now ≡ bounds_of (counts_of deck.now) }
-    requires k_bound { k < part_count deck.now 4 }
-    ensures { result ≡ axiom_answer deck.now k }
-{
-    let form = axiom_form(parts::part_word(deck, 4, k, 0));
-    if form_fits(
-        deck,
-        bounds,
-        parts::count(deck, 3),
-        form,
-        parts::part_word(deck, 4, k, 1),
-        parts::part_word(deck, 4, k, 2),
-        parts::part_word(deck, 4, k, 3),
-    ) {
-        DeckAnswer::Accepted
-    } else {
-        record_fault(deck, bounds, 4, k)
-    }
-}
-
-fn fact_answer(deck: &[u8], bounds: &[usize; 8], k: usize) -> DeckAnswer
-    requires framed { Framed deck.now }
-    requires bounds_value { bounds.now ≡ bounds_of (counts_of deck.now) }
-    requires k_bound { k < part_count deck.now 5 }
-    ensures { result ≡ fact_answer deck.now k }
-{
-    if fields_fit(
-        bounds,
-        0,
-        Kind::Class,
-        Kind::Role,
-        Kind::Class,
-        parts::part_word(deck, 5, k, 0),
-        parts::part_word(deck, 5, k, 1),
-        parts::part_word(deck, 5, k, 2),
-    ) {
-        DeckAnswer::Accepted
-    } else {
-        record_fault(deck, bounds, 5, k)
-    }
-}
-
-fn record_answer(deck: &[u8], bounds: &[usize; 8], p: usize, k: usize) -> DeckAnswer
-    requires framed { Framed deck.now }
-    requires bounds_value { bounds.now ≡ bounds_of (counts_of deck.now) }
-    requires p_bound { p < 6 }
-    requires k_bound { k < part_count deck.now p }
-    ensures { result ≡ record_answer deck.now p k }
-{
-    match p {
-        0 => class_answer(deck, bounds, k),
-        1 => role_answer(deck, bounds, k),
-        2 => injected_answer(deck, bounds, k),
-        3 => concept_answer(deck, bounds, k),
-        4 => axiom_answer(deck, bounds, k),
-        _ => fact_answer(deck, bounds, k),
-    }
-}
-
-// The first refusal of a record of part p.
-fn part_answer(deck: &[u8], bounds: &[usize; 8], p: usize) -> DeckAnswer
-    requires framed { Framed deck.now }
-    requires bounds_value { bounds.now ≡ bounds_of (counts_of deck.now) }
-    requires p_bound { p < 6 }
-    ensures { result ≡ part_answer deck.now p }
-{
-    let n = parts::count(deck, p);
-    let mut k = 0;
-    while k < n {
-        let answer = record_answer(deck, bounds, p, k);
-        if let DeckAnswer::Refused(_) = answer {
-            return answer;
+impl Parts<'_> {
+    // A satisfiable class is in its own row, which rises.
+    fn class_order(&self, k: usize) -> bool
+        requires k_bound { k < part_count self.now.bytes.now 0 }
+        requires k_value { class_shape self.now.bytes.now k ≡ true }
+        ensures { result ≡ class_order self.now.bytes.now k }
+    {
+        let start = self.part_word(0, k, 1) as usize;
+        let count = self.part_word(0, k, 2) as usize;
+        if !self.row_rises(start, count) {
+            return false;
         }
-        k += 1;
+        if self.part_word(0, k, 0) == 1 {
+            return true;
+        }
+        self.find(start, count, k)
     }
-    DeckAnswer::Accepted
+
+    // Both rows of a role lie within lists, and their words are roles and classes.
+    fn role_shape(&self, k: usize) -> bool
+        requires { k < part_count self.now.bytes.now 1 }
+        ensures { result ≡ role_shape self.now.bytes.now k }
+    {
+        if !self.row_shape(
+            self.part_word(1, k, 0),
+            self.part_word(1, k, 1),
+            self.count(1),
+        ) {
+            return false;
+        }
+        self.row_shape(
+            self.part_word(1, k, 2),
+            self.part_word(1, k, 3),
+            self.count(0),
+        )
+    }
+
+    // Both rows rise, and the role is in its own sub-role row.
+    fn role_order(&self, k: usize) -> bool
+        requires k_bound { k < part_count self.now.bytes.now 1 }
+        requires k_value { role_shape self.now.bytes.now k ≡ true }
+        ensures { result ≡ role_order self.now.bytes.now k }
+    {
+        let start = self.part_word(1, k, 0) as usize;
+        let count = self.part_word(1, k, 1) as usize;
+        if !self.row_rises(start, count) {
+            return false;
+        }
+        if !self.row_rises(
+            self.part_word(1, k, 2) as usize,
+            self.part_word(1, k, 3) as usize,
+        ) {
+            return false;
+        }
+        self.find(start, count, k)
+    }
+
+    // The class and the role are above those of the record before.
+    fn injected_order(&self, k: usize) -> bool
+        requires { k < part_count self.now.bytes.now 2 }
+        ensures { result ≡ injected_order self.now.bytes.now k }
+    {
+        if k == 0 {
+            return true;
+        }
+        let before = self.part_word(2, k - 1, 0);
+        let class = self.part_word(2, k, 0);
+        if before < class {
+            return true;
+        }
+        if before != class {
+            return false;
+        }
+        self.part_word(2, k - 1, 1) < self.part_word(2, k, 1)
+    }
 }
 
-// The first refusal of a record, in part order.
-pub fn records_answer(deck: &[u8], bounds: &[usize; 8]) -> DeckAnswer
-    requires framed { Framed deck.now }
-    requires bounds_value { bounds.now ≡ bounds_of (counts_of deck.now) }
-    ensures { result ≡ first_refusal (part_answer deck.now) 6 }
-{
-    let mut p = 0;
-    while p < 6 {
-        let answer = part_answer(deck, bounds, p);
-        if let DeckAnswer::Refused(_) = answer {
-            return answer;
+impl Draft<'_> {
+    fn class_answer(&self, k: usize) -> Result<(), Refusal>
+        requires { k < part_count self.now.parts.bytes.now 0 }
+        ensures { result ≡ class_answer self.now.parts.bytes.now k }
+    {
+        if !self.form_fits(0, k, 0, 0, CLASS_FORM) {
+            return self.record_fault(0, k);
         }
-        p += 1;
+        in_order(self.parts.class_order(k))
     }
-    DeckAnswer::Accepted
+
+    fn role_answer(&self, k: usize) -> Result<(), Refusal>
+        requires { k < part_count self.now.parts.bytes.now 1 }
+        ensures { result ≡ role_answer self.now.parts.bytes.now k }
+    {
+        if !self.parts.role_shape(k) {
+            return self.record_fault(1, k);
+        }
+        in_order(self.parts.role_order(k))
+    }
+
+    fn injected_answer(&self, k: usize) -> Result<(), Refusal>
+        requires { k < part_count self.now.parts.bytes.now 2 }
+        ensures { result ≡ injected_answer self.now.parts.bytes.now k }
+    {
+        if !self.form_fits(2, k, 0, 0, INJECTED_FORM) {
+            return self.record_fault(2, k);
+        }
+        in_order(self.parts.injected_order(k))
+    }
+
+    // A concept that does not fit where operands are below it: whether it would where they are below C.
+    fn concept_refusal(&self, k: usize) -> Result<(), Refusal>
+        requires k_bound { k < part_count self.now.parts.bytes.now 3 }
+        requires k_value { concept_shape self.now.parts.bytes.now k k ≡ false }
+        ensures { result ≡ concept_answer self.now.parts.bytes.now k }
+    {
+        let form = concept_form(self.parts.part_word(3, k, 0));
+        if self.form_fits(3, k, 1, self.parts.count(3), form) {
+            return Err(Refusal::ForwardOperand);
+        }
+        self.record_fault(3, k)
+    }
+
+    // Operands that are below the concept are below C too, so a good list is gone through once.
+    fn concept_answer(&self, k: usize) -> Result<(), Refusal>
+        requires { k < part_count self.now.parts.bytes.now 3 }
+        ensures { result ≡ concept_answer self.now.parts.bytes.now k }
+    {
+        let form = concept_form(self.parts.part_word(3, k, 0));
+        if self.form_fits(3, k, 1, k, form) {
+            return Ok(());
+        }
+        self.concept_refusal(k)
+    }
+
+    fn axiom_answer(&self, k: usize) -> Result<(), Refusal>
+        requires { k < part_count self.now.parts.bytes.now 4 }
+        ensures { result ≡ axiom_answer self.now.parts.bytes.now k }
+    {
+        let form = axiom_form(self.parts.part_word(4, k, 0));
+        if self.form_fits(4, k, 1, self.parts.count(3), form) {
+            return Ok(());
+        }
+        self.record_fault(4, k)
+    }
+
+    fn fact_answer(&self, k: usize) -> Result<(), Refusal>
+        requires { k < part_count self.now.parts.bytes.now 5 }
+        ensures { result ≡ fact_answer self.now.parts.bytes.now k }
+    {
+        if self.form_fits(5, k, 0, 0, FACT_FORM) {
+            return Ok(());
+        }
+        self.record_fault(5, k)
+    }
+
+    fn record_answer(&self, p: usize, k: usize) -> Result<(), Refusal>
+        requires p_bound { p < 6 }
+        requires k_bound { k < part_count self.now.parts.bytes.now p }
+        ensures { result ≡ record_answer self.now.parts.bytes.now p k }
+    {
+        match p {
+            0 => self.class_answer(k),
+            1 => self.role_answer(k),
+            2 => self.injected_answer(k),
+            3 => self.concept_answer(k),
+            4 => self.axiom_answer(k),
+            _ => self.fact_answer(k),
+        }
+    }
+
+    // The first refusal of a record of part p.
+    fn part_answer(&self, p: usize) -> Result<(), Refusal>
+        requires { p < 6 }
+        ensures { result ≡ part_answer self.now.parts.bytes.now p }
+    {
+        for k in 0..self.parts.count(p) {
+            self.record_answer(p, k)?;
+        }
+        Ok(())
+    }
+
+    // The first refusal of a record, in part order.
+    pub fn records_answer(&self) -> Result<(), Refusal>
+        ensures { result ≡ first_refusal (part_answer self.now.parts.bytes.now) 6 }
+    {
+        for p in 0..6 {
+            self.part_answer(p)?;
+        }
+        Ok(())
+    }
 }

@@ -8,7 +8,7 @@ use lib.ListN.{length}
 use Rattle.deck.specs.Answer.{trailer_answer}
 use Rattle.deck.specs.Trailer.{edition, counts_fit}
 use Rattle.deck.proofs.check_trailer.Goals as goal
-use Rattle.deck.proofs.check_trailer.Goals.{Else-deck-lt72, Else-deck-ne0, Else-not-counts_fit, Else-trailer_word-edition}
+use Rattle.deck.proofs.check_trailer.Goals.{Else-deck-lt72, Else-deck-ne0, Else-not-counts_fit, Else-word-edition}
 
 whole : (c : Else-deck-ne0) → eqb (length c.args.deck.now % 4) 0 ≡ true
 whole c = eq-eqb (length c.args.deck.now % 4) 0 (omega arith)
@@ -16,7 +16,7 @@ whole c = eq-eqb (length c.args.deck.now % 4) 0 (omega arith)
 long : (c : Else-deck-lt72) → leb 72 (length c.args.deck.now) ≡ true
 long c = le-leb 72 (length c.args.deck.now) (omega arith)
 
-right-edition : (c : Else-trailer_word-edition) → eqb (edition c.args.deck.now) c.args.edition ≡ true
+right-edition : (c : Else-word-edition) → eqb (edition c.args.deck.now) c.args.edition ≡ true
 right-edition c = eq-eqb (edition c.args.deck.now) c.args.edition (omega arith)
 
 counts : (c : Else-not-counts_fit) → counts_fit c.args.deck.now ≡ true
@@ -32,22 +32,22 @@ unfolding trailer_answer
 returns-then-deck-lt72 c =
     simp (whole (goal.at.returns-then-deck-lt72 c).Else-deck-ne0, lt-leb 72 (length c.args.deck.now) c.if-deck-lt72.true)
 
-pub returns-then-trailer_word-edition : goal.returns-then-trailer_word-edition
+pub returns-then-word-edition : goal.returns-then-word-edition
 unfolding trailer_answer
-returns-then-trailer_word-edition c =
-    simp (whole (goal.at.returns-then-trailer_word-edition c).Else-deck-ne0, long (goal.at.returns-then-trailer_word-edition c).Else-deck-lt72, ne_eqb (edition c.args.deck.now) c.args.edition (λ e. c.if-trailer_word-edition.true (omega arith)))
+returns-then-word-edition c =
+    simp (whole (goal.at.returns-then-word-edition c).Else-deck-ne0, long (goal.at.returns-then-word-edition c).Else-deck-lt72, ne_eqb (edition c.args.deck.now) c.args.edition (λ e. c.if-word-edition.true (omega arith)))
 
 pub returns-then-not-counts_fit : goal.returns-then-not-counts_fit
 unfolding trailer_answer
 returns-then-not-counts_fit c =
-    simp (whole (goal.at.returns-then-not-counts_fit c).Else-deck-ne0, long (goal.at.returns-then-not-counts_fit c).Else-deck-lt72, right-edition (goal.at.returns-then-not-counts_fit c).Else-trailer_word-edition, sym c.counts_fit.ensures ∙ c.if-not-counts_fit.true)
+    simp (whole (goal.at.returns-then-not-counts_fit c).Else-deck-ne0, long (goal.at.returns-then-not-counts_fit c).Else-deck-lt72, right-edition (goal.at.returns-then-not-counts_fit c).Else-word-edition, sym c.counts_fit.ensures ∙ c.if-not-counts_fit.true)
 
 pub returns-then-not-layout_fits : goal.returns-then-not-layout_fits
 unfolding trailer_answer
 returns-then-not-layout_fits c =
-    simp (whole (goal.at.returns-then-not-layout_fits c).Else-deck-ne0, long (goal.at.returns-then-not-layout_fits c).Else-deck-lt72, right-edition (goal.at.returns-then-not-layout_fits c).Else-trailer_word-edition, counts (goal.at.returns-then-not-layout_fits c).Else-not-counts_fit, sym c.layout_fits.ensures ∙ c.if-not-layout_fits.true)
+    simp (whole (goal.at.returns-then-not-layout_fits c).Else-deck-ne0, long (goal.at.returns-then-not-layout_fits c).Else-deck-lt72, right-edition (goal.at.returns-then-not-layout_fits c).Else-word-edition, counts (goal.at.returns-then-not-layout_fits c).Else-not-counts_fit, sym c.layout_fits.ensures ∙ c.if-not-layout_fits.true)
 
 pub returns : goal.returns
 unfolding trailer_answer
 returns c =
-    simp (whole (goal.at.returns c).Else-deck-ne0, long (goal.at.returns c).Else-deck-lt72, right-edition (goal.at.returns c).Else-trailer_word-edition, counts (goal.at.returns c).Else-not-counts_fit, sym c.layout_fits.ensures ∙ c.if-not-layout_fits.false)
+    simp (whole (goal.at.returns c).Else-deck-ne0, long (goal.at.returns c).Else-deck-lt72, right-edition (goal.at.returns c).Else-word-edition, counts (goal.at.returns c).Else-not-counts_fit, sym c.layout_fits.ensures ∙ c.if-not-layout_fits.false)

@@ -1,0 +1,17 @@
+use Rattle.deck.proofs.ReadLaws.{axiom-place, axiom-read}
+use Rattle.deck.proofs.accepted.Deck.axiom_at.Goals as goal
+
+pub part_word-requires-clause-k_bound : goal.part_word-requires-clause-k_bound
+part_word-requires-clause-k_bound c = rw c.parts-parts.ensures (axiom-place _ c.args.self.now.accepted _ c.requires.axiom_bound)
+
+pub part_word-requires-2-clause-k_bound : goal.part_word-requires-2-clause-k_bound
+part_word-requires-2-clause-k_bound c = rw c.parts-parts.ensures (axiom-place _ c.args.self.now.accepted _ c.requires.axiom_bound)
+
+pub part_word-requires-3-clause-k_bound : goal.part_word-requires-3-clause-k_bound
+part_word-requires-3-clause-k_bound c = rw c.parts-parts.ensures (axiom-place _ c.args.self.now.accepted _ c.requires.axiom_bound)
+
+pub part_word-requires-4-clause-k_bound : goal.part_word-requires-4-clause-k_bound
+part_word-requires-4-clause-k_bound c = rw c.parts-parts.ensures (axiom-place _ c.args.self.now.accepted _ c.requires.axiom_bound)
+
+pub returns : goal.returns
+returns c = rw (c.part_word.ensures, c.part_word-2.ensures, c.part_word-3.ensures, c.part_word-4.ensures, c.parts-parts.ensures) (axiom-read _ c.args.self.now.accepted c.args.axiom c.requires.axiom_bound)

@@ -1,0 +1,21 @@
+use mathlib.Core.Path.{◌≡◌, sym, ◌∙◌}
+use mathlib.Core.Bool.{true}
+use native.Mathlib.Omega.{arith}
+use Rattle.deck.specs.Records.{class_shape, class_answer}
+use Rattle.deck.proofs.FaultLaws.{no-fault, faulty}
+use Rattle.deck.proofs.forms.Draft.class_answer.Goals as goal
+use Rattle.deck.proofs.forms.Draft.class_answer.Goals.{Else-not-form_fits}
+
+shaped : (c : Else-not-form_fits) → class_shape c.args.self.now.parts.bytes.now c.args.k ≡ true
+shaped c = sym c.form_fits.ensures ∙ c.if-not-form_fits.false
+
+pub returns-then-not-form_fits : goal.returns-then-not-form_fits
+unfolding class_answer
+returns-then-not-form_fits c = c.record_fault.ensures ∙ faulty _ _ 0 (omega arith) _ (sym c.form_fits.ensures ∙ c.if-not-form_fits.true)
+
+pub class_order-requires-clause-k_value : goal.class_order-requires-clause-k_value
+class_order-requires-clause-k_value c = shaped (goal.at.class_order-requires-clause-k_value c).Else-not-form_fits
+
+pub returns : goal.returns
+unfolding class_answer
+returns c = simp (no-fault _ _ 0 (omega arith) (shaped (goal.at.returns c).Else-not-form_fits)) (rw c.class_order.ensures at c.in_order.ensures)
