@@ -8,17 +8,16 @@ use Rattle.deck.specs.Deck.{Deck, class_at, class_count, injected_class}
 use Rattle.deck.specs.Sound.{Sound}
 use Rattle.deck.specs.Reads.{RealClass}
 use Rattle.deck.specs.declared.numbers.ClassId.{ClassId}
-use Rattle.deck.specs.declared.injected.InjectedClass.{InjectedClass}
-use Rattle.deck.specs.declared.injected.InjectedClass.TheVariants.{Found, Absent}
+use Rattle.std.specs.Prelude.{Option, Some, None}
 use Rattle.atoms.specs.declared.target_label.Target.TheVariants.{Row, Delta, NotClosed}
 use Rattle.atoms.specs.Target.{holds_range, by_injected, target_of, TargetFits}
 
 module _ (D : Deck) (y : ℕ) where
-  module _ (q : InjectedClass) where
-    pub none-injected : q ≡ Absent → NotClosed ≡ by_injected D y q
+  module _ (q : Option ClassId) where
+    pub none-injected : q ≡ None → NotClosed ≡ by_injected D y q
     none-injected e = rw e
 
-    module _ (k : ClassId) (e : q ≡ Found k) where
+    module _ (k : ClassId) (e : q ≡ Some k) where
       pub unsatisfiable-injected : (class_at D k.0).unsatisfiable ≡ true → Delta (record { 0 = y }) ≡ by_injected D y q
       unsatisfiable-injected u = rw (e, u)
 
@@ -30,9 +29,9 @@ module _ (D : Deck) (y : ℕ) where
           let g : k.0 < D.real = subst (RealClass D) e h in
           omega (arith, W.real, g)
 
-  pub injected-fits : Sound D → y < class_count D → (q : InjectedClass) → RealClass D q → TargetFits D (by_injected D y q)
-  injected-fits W b Absent h = tt
-  injected-fits W b (Found k) h = go (class_at D k.0).unsatisfiable
+  pub injected-fits : Sound D → y < class_count D → (q : Option ClassId) → RealClass D q → TargetFits D (by_injected D y q)
+  injected-fits W b None h = tt
+  injected-fits W b (Some k) h = go (class_at D k.0).unsatisfiable
     where
       go : (u : Bool) → TargetFits D (cond u (Delta (record { 0 = y })) (Row k))
       go true = b

@@ -2,8 +2,7 @@
 use Rattle.std.specs.Prelude.{ℕ, ◌<◌, Bool, cond, map}
 use Rattle.deck.specs.Deck.{Deck, class_at, class_count, role_at, has, injected_class}
 use Rattle.deck.specs.declared.numbers.ClassId.{ClassId}
-use Rattle.deck.specs.declared.injected.InjectedClass.{InjectedClass}
-use Rattle.deck.specs.declared.injected.InjectedClass.TheVariants.{Found, Absent}
+use Rattle.std.specs.Prelude.{Option, Some, None}
 use Rattle.eval.specs.Lists.{every}
 use Rattle.atoms.specs.declared.target_label.Target.{Target}
 use Rattle.atoms.specs.declared.target_label.Target.TheVariants.{Row, Delta, NotClosed}
@@ -16,9 +15,9 @@ abbrev class : ℕ → ClassId
 class k = record { 0 = k }
 
 -- "with q's row if (y, r) has a satisfiable q; else, q being unsatisfiable, with y's row and reason RunDelta(y); without a q there is LabelNotClosed(y, r)"
-abbrev pub by_injected : Deck → ℕ → InjectedClass → Target
-by_injected D y (Found q) = cond (class_at D q.0).unsatisfiable (Delta (class y)) (Row q)
-by_injected D y Absent = NotClosed
+abbrev pub by_injected : Deck → ℕ → Option ClassId → Target
+by_injected D y (Some q) = cond (class_at D q.0).unsatisfiable (Delta (class y)) (Row q)
+by_injected D y None = NotClosed
 
 -- "labelled with y's row if that holds every class of r's range row; else …"
 unfoldable pub target_of : Deck → ℕ → ℕ → Target

@@ -8,7 +8,7 @@ ghost use Rattle.eval.specs.Lists.{every};
 ghost use Rattle.atoms.specs.Target.{holds_range, by_injected, target_of, TargetFits};
 
 use deck::classes::{is_unsatisfiable, subsumers_of};
-use deck::injected::{InjectedClass, injected_class};
+use deck::injected::injected_class;
 use deck::numbers::{ClassId, RoleId};
 use deck::roles::range_of;
 use deck::rows::{Span, item, row_has};
@@ -51,12 +51,12 @@ fn holds_range(deck: &[u8], y: ClassId, r: RoleId) -> bool
 }
 
 // By the injected class, where the row of y does not do.
-fn injected_target(deck: &[u8], y: ClassId, q: InjectedClass) -> Target
+fn injected_target(deck: &[u8], y: ClassId, q: Option<ClassId>) -> Target
     requires accepted { IsAccepted deck.now }
     requires real_class { RealClass (deck_of deck.now) q }
     ensures { result ≡ by_injected (deck_of deck.now) y.0 q }
 {
-    let InjectedClass::Found(class) = q else {
+    let Some(class) = q else {
         return Target::NotClosed;
     };
     if is_unsatisfiable(deck, class) {

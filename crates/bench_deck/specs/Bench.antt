@@ -1,14 +1,14 @@
 -- What the bench's functions answer.
+use Rattle.std.specs.Prelude.{Ok, Err}
 use Rattle.std.specs.Prelude.{ℕ, zero, suc, ◌+◌, ◌%◌, ◌^◌, List}
-use Rattle.deck.specs.declared.DeckAnswer.{DeckAnswer}
-use Rattle.deck.specs.declared.DeckAnswer.TheVariants.{Accepted, Refused}
+use Rattle.deck.specs.Refusal.{DeckAnswer}
 use Rattle.deck.specs.Refusal.{number_of}
 use Rattle.deck.specs.Word.{word_at}
 
 -- 0 for an accepted deck, else the number of its refusal
 abbrev pub answer_number : DeckAnswer → ℕ
-answer_number Accepted = 0
-answer_number (Refused r) = number_of r
+answer_number (Ok tt) = 0
+answer_number (Err r) = number_of r
 
 -- the sum of the first n words, modulo 2 ^ 32
 unfoldable pub sum_of : List ℕ → ℕ → ℕ

@@ -5,14 +5,14 @@ ghost use Rattle.std.specs.Prelude.{◌≡◌, ◌/◌, length};
 ghost use Rattle.deck.specs.Records.{deck_answer};
 ghost use Rattle.bench_deck.specs.Bench.{answer_number, sum_of};
 
-use deck::DeckAnswer;
+use deck::refusal::Refusal;
 
-fn number(answer: DeckAnswer) -> u32
+fn number(answer: Result<(), Refusal>) -> u32
     ensures { result ≡ answer_number answer }
 {
     match answer {
-        DeckAnswer::Accepted => 0,
-        DeckAnswer::Refused(refusal) => deck::refusal::refusal_number(refusal),
+        Ok(()) => 0,
+        Err(refusal) => refusal.number(),
     }
 }
 

@@ -1,9 +1,10 @@
 -- What the bench's function answers.
+use Rattle.std.specs.Prelude.{Ok, Err}
 use Rattle.std.specs.Prelude.{ℕ, ◌+◌}
 use Rattle.deck.specs.Refusal.{number_of}
 use Rattle.eval.specs.declared.judgement.Judgement.{Judgement}
 use Rattle.eval.specs.declared.judgement.Judgement.TheVariants.{False, True, Unresolved}
-use Rattle.eval.specs.declared.entry.ConceptAnswer.{ConceptAnswer}
+use Rattle.eval.specs.Entry.{ConceptAnswer}
 
 -- 0 False, 1 True, 2 + tag Unresolved, 100 + number Refused
 abbrev pub judgement_word : Judgement → ℕ
@@ -12,5 +13,5 @@ judgement_word True = 1
 judgement_word (Unresolved t) = 2 + t
 
 abbrev pub answer_word : ConceptAnswer → ℕ
-answer_word (ConceptAnswer.Refused r) = 100 + number_of r
-answer_word (ConceptAnswer.Judged j) = judgement_word j
+answer_word (Err r) = 100 + number_of r
+answer_word (Ok j) = judgement_word j

@@ -6,17 +6,17 @@ ghost use Rattle.eval.specs.Entry.{shape_of, concept_answer};
 ghost use Rattle.bench_eval.specs.Bench.{answer_word};
 
 use deck::numbers::{ConceptId, Element};
-use deck::refusal::refusal_number;
-use eval::entry::{ConceptAnswer, eval_concept_in};
+use deck::refusal::Refusal;
+use eval::entry::eval_concept_in;
 use eval::judgement::Judgement;
 
 // 0 False, 1 True, 2 + tag Unresolved, 100 + number Refused.
-fn word(answer: ConceptAnswer) -> u64
+fn word(answer: Result<Judgement, Refusal>) -> u64
     ensures { result ≡ answer_word answer }
 {
     match answer {
-        ConceptAnswer::Refused(refusal) => 100 + refusal_number(refusal) as u64,
-        ConceptAnswer::Judged(judgement) => match judgement {
+        Err(refusal) => 100 + refusal.number() as u64,
+        Ok(judgement) => match judgement {
             Judgement::False => 0,
             Judgement::True => 1,
             Judgement::Unresolved(tag) => 2 + tag as u64,

@@ -1,4 +1,5 @@
 -- Answers as words: what a call returns and writes, and what follows once it returned 0. Assumes nothing.
+use Rattle.std.specs.Prelude.{Ok, Err}
 use Prim.Native.Nat.{ℕ, ◌<◌, ◌≤◌}
 use mathlib.Core.Bool.{true}
 use mathlib.Core.Path.{◌≡◌, refl, sym, ap, ◌∙◌}
@@ -8,8 +9,7 @@ use native.Mathlib.Omega.{arith}
 use borrow.Author.Tests.{lt-ltb, le-ltb}
 use lib.ListN.{length, get_or, take}
 use lib.Seq.{sets}
-use Rattle.deck.specs.declared.DeckAnswer.{DeckAnswer}
-use Rattle.deck.specs.declared.DeckAnswer.TheVariants.{Accepted, Refused}
+use Rattle.deck.specs.Refusal.{DeckAnswer}
 use Rattle.deck.specs.declared.refusal.Refusal.{Refusal}
 use Rattle.deck.specs.declared.refusal.Refusal.TheVariants.{TooShort, UnknownEdition, CountOverLimit, BadLayout, BadOrder, ForwardOperand, BadBounds, ShortBuffer, ForeignStructure, AbsentIndex, UnknownTag, OutOfRange, FilledField}
 use Rattle.deck.specs.Refusal.{number_of, word_of, no_word}
@@ -21,8 +21,8 @@ use Rattle.eval.specs.declared.shape.Shape.{Shape}
 use Rattle.eval.specs.declared.judgement.Judgement.{Judgement}
 use Rattle.eval.specs.declared.judgement.Judgement.TheVariants.{False, True, Unresolved}
 use Rattle.eval.specs.declared.verdict.Verdict.{Verdict}
-use Rattle.eval.specs.declared.entry.ConceptAnswer.{ConceptAnswer}
-use Rattle.eval.specs.declared.entry.AxiomAnswer.{AxiomAnswer}
+use Rattle.eval.specs.Entry.{ConceptAnswer}
+use Rattle.eval.specs.Entry.{AxiomAnswer}
 use Rattle.eval.specs.Structure.{Structure}
 use Rattle.eval.specs.Lent.{structure_of}
 use Rattle.eval.specs.Truth.{Choice, ext, plain}
@@ -33,7 +33,7 @@ use Rattle.eval.specs.Verdict.{words_of}
 use Rattle.build.specs.declared.bounds.Bounds.{Bounds}
 use Rattle.model.specs.declared.outcome.Outcome.{Outcome}
 use Rattle.build.specs.declared.tally.Tally.{Tally}
-use Rattle.model.specs.declared.run.RunAnswer.{RunAnswer}
+use Rattle.model.specs.Run.{RunAnswer}
 use Rattle.atoms.specs.Rows.{put}
 use Rattle.model.specs.Run as model
 use Rattle.model.specs.Run.{Ran, ran, shape_in}
@@ -99,15 +99,15 @@ has_word : (ρ : Refusal) → word_of ρ < no_word → 12 ≤ number_of ρ
 has_word ρ h = ⊎_elim (λ (l : number_of ρ < 12). absurd (omega (arith, h, unnamed ρ l))) (λ (l : 12 ≤ number_of ρ). l) (lt-or-le (number_of ρ) 12)
 
 pub fault-named : (s : List ℕ) {r : ℕ} (a : DeckAnswer) → deck_answer s ≡ a → r ≡ deck_word a → r < no_word → FaultNamed s r
-fault-named s Accepted is h l = absurd (omega (arith, h, l))
-fault-named s (Refused ρ) is h l =
+fault-named s (Ok tt) is h l = absurd (omega (arith, h, l))
+fault-named s (Err ρ) is h l =
     let pied = has_word ρ (rw h at l) in
     record { refusal = ρ; answered = is; pied = pied; word = sym h; named = named s ρ is pied }
 
 pub fault-known : (s : List ℕ) {r : ℕ} (a : DeckAnswer) → deck_answer s ≡ a → r ≡ deck_word a → 12 ≤ check_deck s → r < no_word
 unfolding check_deck
-fault-known s Accepted is h l = absurd (omega (arith, rw is at l))
-fault-known s (Refused ρ) is h l = rw h (word-told s ρ is (rw is at l))
+fault-known s (Ok tt) is h l = absurd (omega (arith, rw is at l))
+fault-known s (Err ρ) is h l = rw h (word-told s ρ is (rw is at l))
 
 -- ---- judging
 module _ (s labels : List ℕ) (rows : List (List ℕ)) (shape : Shape) (answer : List ℕ) {r : ℕ} where
@@ -130,16 +130,16 @@ module _ (s labels : List ℕ) (rows : List (List ℕ)) (shape : Shape) (answer 
   axiom-told a long is h = rw (le-ltb (length answer) 4 long) (h ∙ ap (λ (v : AxiomAnswer). verdict_told v answer) is)
 
 pub concept-right : {D : Deck} {S : Structure} {c e : ℕ} {answer' : List ℕ} {r : ℕ} (answer : List ℕ) (ja : ConceptAnswer) → told r answer' ≡ judgement_told ja answer
-    → ((j : Judgement) → ja ≡ ConceptAnswer.Judged j → (χ : Choice) → Right j (ext D S χ c e))
-    → ((j : Judgement) → ja ≡ ConceptAnswer.Judged j → plain D c ≡ true → (χ : Choice) → j ≡ truth (ext D S χ c e)) → r ≡ 0 → Judged D S c e answer'
-concept-right answer (ConceptAnswer.Refused ρ) h right exact z = refused-never ρ h z
-concept-right answer (ConceptAnswer.Judged j) h right exact z =
+    → ((j : Judgement) → ja ≡ Ok j → (χ : Choice) → Right j (ext D S χ c e))
+    → ((j : Judgement) → ja ≡ Ok j → plain D c ≡ true → (χ : Choice) → j ≡ truth (ext D S χ c e)) → r ≡ 0 → Judged D S c e answer'
+concept-right answer (Err ρ) h right exact z = refused-never ρ h z
+concept-right answer (Ok j) h right exact z =
     record { judgement = j; words = first-four answer (judgement_words j) (four-judgement j) h; right = right j refl; exact = exact j refl }
 
 pub axiom-justified : {D : Deck} {S : Structure} {a : ℕ} {answer' : List ℕ} {r : ℕ} (answer : List ℕ) (va : AxiomAnswer) → told r answer' ≡ verdict_told va answer
-    → ((v : Verdict) → va ≡ AxiomAnswer.Checked v → Justified D S (axiom_at D a) v) → r ≡ 0 → Checked D S a answer'
-axiom-justified answer (AxiomAnswer.Refused ρ) h justified z = refused-never ρ h z
-axiom-justified answer (AxiomAnswer.Checked v) h justified z =
+    → ((v : Verdict) → va ≡ Ok v → Justified D S (axiom_at D a) v) → r ≡ 0 → Checked D S a answer'
+axiom-justified answer (Err ρ) h justified z = refused-never ρ h z
+axiom-justified answer (Ok v) h justified z =
     record { verdict = v; words = first-four answer (words_of v) (four-words v) h; justified = justified v refl }
 
 -- ---- a run
@@ -157,8 +157,8 @@ module _ (s : List ℕ) (B : Bounds) (last : ℕ) (labels : List ℕ) (edges : L
         (ap (λ (t : Told). called t labels' edges' log' verdicts') h ∙ ap (λ (m : Ran). called_for m answer) is)
 
 pub run-relied : {D : Deck} {labels : List ℕ} {edges : List (List ℕ)} {verdicts answer' : List ℕ} {r : ℕ} (answer : List ℕ) (a : RunAnswer) → told r answer' ≡ summary_told a answer
-    → ((outcome : Outcome) (t : Tally) → a ≡ RunAnswer.Done outcome t → Trusted D (structure_of D labels edges (shape_in t)) verdicts outcome)
+    → ((outcome : Outcome) (t : Tally) → a ≡ Ok (outcome, t) → Trusted D (structure_of D labels edges (shape_in t)) verdicts outcome)
     → r ≡ 0 → Relied D labels edges verdicts answer'
-run-relied answer (RunAnswer.Refused ρ) h trusted z = refused-never ρ h z
-run-relied answer (RunAnswer.Done outcome t) h trusted z =
+run-relied answer (Err ρ) h trusted z = refused-never ρ h z
+run-relied answer (Ok (outcome, t)) h trusted z =
     record { outcome = outcome; tally = t; words = first-four answer (summary_words outcome t) refl h; trusted = trusted outcome t refl }

@@ -1,12 +1,13 @@
 -- What each exported function returns, and what every lent buffer holds after it, for all inputs.
 -- 9, "short galley", is given for the answer's buffer too, and before anything else is looked at.
+use Rattle.std.specs.Prelude.{Err}
 use Rattle.std.specs.Prelude.{ℕ, cond, List}
 use Rattle.deck.specs.declared.refusal.Refusal.TheVariants.{ShortBuffer}
 use Rattle.deck.specs.Records.{deck_answer}
 use Rattle.eval.specs.declared.shape.Shape.{Shape}
 use Rattle.eval.specs.Entry.{concept_answer, axiom_answer}
 use Rattle.build.specs.declared.bounds.Bounds.{Bounds}
-use Rattle.model.specs.declared.run.RunAnswer.{RunAnswer}
+use Rattle.model.specs.Run.{RunAnswer}
 use Rattle.model.specs.Run as model
 use Rattle.model.specs.Run.{Ran, ran}
 use Rattle.capi.specs.Words.{Told, refused, is_short, deck_number, deck_word, judgement_told, verdict_told, summary_told}
@@ -50,4 +51,4 @@ called_for m answer = called (summary_told m.answer answer) m.labels m.edges m.l
 
 unfoldable pub run : List ℕ → Bounds → ℕ → List ℕ → List (List ℕ) → List ℕ → List ℕ → List ℕ → Called
 run s B last labels edges log verdicts answer =
-    called_for (cond (is_short answer) (ran (RunAnswer.Refused ShortBuffer) labels edges log verdicts) (model.run s B last labels edges log verdicts)) answer
+    called_for (cond (is_short answer) (ran (Err ShortBuffer) labels edges log verdicts) (model.run s B last labels edges log verdicts)) answer

@@ -1,6 +1,6 @@
 -- What a caller may rely on: once 0 was returned, read off the first four words of the answer; once a word was returned, of the deck.
+use Rattle.std.specs.Prelude.{Err}
 use Rattle.std.specs.Prelude.{ℕ, ◌≤◌, true, ◌≡◌, List, take}
-use Rattle.deck.specs.declared.DeckAnswer.TheVariants.{Refused}
 use Rattle.deck.specs.declared.refusal.Refusal.{Refusal}
 use Rattle.deck.specs.Refusal.{number_of, word_of}
 use Rattle.deck.specs.Records.{deck_answer}
@@ -23,7 +23,7 @@ use Rattle.capi.specs.Words.{judgement_words, summary_words}
 -- the deck is refused with 12, 13 or 14, and what stands at word w is that fault
 pub record FaultNamed (s : List ℕ) (w : ℕ) : Type 0 where
   pub refusal : Refusal
-  pub answered : deck_answer s ≡ Refused refusal
+  pub answered : deck_answer s ≡ Err refusal
   pub pied : 12 ≤ number_of refusal
   pub word : word_of refusal ≡ w
   pub named : Named s refusal

@@ -23,7 +23,7 @@ ghost use Rattle.report.specs.Text as text;
 use build::bounds::Bounds;
 use deck::check_deck;
 use deck::numbers::{ConceptId, Element};
-use deck::refusal::{Refusal, refusal_number};
+use deck::refusal::Refusal;
 use eval::entry::{check_axiom_in, eval_concept_in};
 use model::run::run;
 use report::report;
@@ -63,7 +63,7 @@ pub extern "C" fn style_deck_eval_concept(
     ensures right { result ≡ 0 → Judged (deck_of deck.now) (structure_of (deck_of deck.now) labels.now edges.now (shape_of elements edge_count)) concept element answer.new }
 {
     if answer.len() < 4 {
-        return refusal_number(Refusal::ShortBuffer);
+        return Refusal::ShortBuffer.number();
     }
     tell_judgement(
         answer,
@@ -94,7 +94,7 @@ pub extern "C" fn style_deck_check_axiom(
     ensures justified { result ≡ 0 → Checked (deck_of deck.now) (structure_of (deck_of deck.now) labels.now edges.now (shape_of elements edge_count)) «axiom» answer.new }
 {
     if answer.len() < 4 {
-        return refusal_number(Refusal::ShortBuffer);
+        return Refusal::ShortBuffer.number();
     }
     tell_verdict(
         answer,
@@ -121,7 +121,7 @@ pub extern "C" fn style_deck_run(
     ensures trusted { result ≡ 0 → Relied (deck_of deck.now) labels.new edges.new verdicts.new answer.new }
 {
     if answer.len() < 4 {
-        return refusal_number(Refusal::ShortBuffer);
+        return Refusal::ShortBuffer.number();
     }
     let bounds = Bounds {
         max_elements: max_elements,

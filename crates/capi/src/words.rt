@@ -1,30 +1,42 @@
 // Answers as numbers and words.
 ghost use Rattle.std.specs.Prelude.{◌≡◌, [], ◌∷◌, ◌≤◌, length};
+ghost use Rattle.deck.specs.Refusal.{word_told};
 ghost use Rattle.capi.specs.Words.{told, given, deck_number, deck_word, judgement_words, judgement_told, verdict_told, outcome_number, summary_told};
 
-use deck::DeckAnswer;
-use deck::refusal::{NO_WORD, refusal_number, refusal_word};
-use eval::entry::{AxiomAnswer, ConceptAnswer};
+use build::tally::Tally;
+use deck::numbers::WordIndex;
+use deck::refusal::Refusal;
 use eval::judgement::Judgement;
-use eval::verdict::verdict_words;
+use eval::verdict::{Verdict, verdict_words};
 use model::outcome::Outcome;
-use model::run::RunAnswer;
 
-pub fn deck_number(answer: DeckAnswer) -> u32
+// Stands for the word of a refusal that has none, and of an accepted deck: no deck has so many words.
+const NO_WORD: u32 = 4294967295;
+
+pub fn deck_number(answer: Result<(), Refusal>) -> u32
     ensures { result ≡ deck_number answer }
 {
     match answer {
-        DeckAnswer::Accepted => 0,
-        DeckAnswer::Refused(refusal) => refusal_number(refusal),
+        Ok(()) => 0,
+        Err(refusal) => refusal.number(),
     }
 }
 
-pub fn deck_word(answer: DeckAnswer) -> u32
+fn word_told(word: Option<WordIndex>) -> u32
+    ensures { result ≡ word_told word }
+{
+    match word {
+        Some(index) => index.0,
+        None => NO_WORD,
+    }
+}
+
+pub fn deck_word(answer: Result<(), Refusal>) -> u32
     ensures { result ≡ deck_word answer }
 {
     match answer {
-        DeckAnswer::Accepted => NO_WORD,
-        DeckAnswer::Refused(refusal) => refusal_word(refusal),
+        Ok(()) => NO_WORD,
+        Err(refusal) => word_told(refusal.word()),
     }
 }
 
@@ -61,39 +73,39 @@ fn give(answer: &mut [u32], a: u32, b: u32, c: u32, d: u32) -> u32
 }
 
 // Each of the three below writes the words of an answer and returns 0, or returns the number of a refusal.
-pub fn tell_judgement(answer: &mut [u32], judged: ConceptAnswer) -> u32
+pub fn tell_judgement(answer: &mut [u32], judged: Result<Judgement, Refusal>) -> u32
     requires { 4 ≤ length answer.old }
     ensures { told result answer.new ≡ judgement_told judged answer.old }
 {
     match judged {
-        ConceptAnswer::Refused(refusal) => refusal_number(refusal),
-        ConceptAnswer::Judged(judgement) => {
+        Err(refusal) => refusal.number(),
+        Ok(judgement) => {
             let w = judgement_words(judgement);
             give(answer, w[0], w[1], w[2], w[3])
         }
     }
 }
 
-pub fn tell_verdict(answer: &mut [u32], checked: AxiomAnswer) -> u32
+pub fn tell_verdict(answer: &mut [u32], checked: Result<Verdict, Refusal>) -> u32
     requires { 4 ≤ length answer.old }
     ensures { told result answer.new ≡ verdict_told checked answer.old }
 {
     match checked {
-        AxiomAnswer::Refused(refusal) => refusal_number(refusal),
-        AxiomAnswer::Checked(verdict) => {
+        Err(refusal) => refusal.number(),
+        Ok(verdict) => {
             let w = verdict_words(verdict);
             give(answer, w[0], w[1], w[2], w[3])
         }
     }
 }
 
-pub fn tell_summary(answer: &mut [u32], ran: RunAnswer) -> u32
+pub fn tell_summary(answer: &mut [u32], ran: Result<(Outcome, Tally), Refusal>) -> u32
     requires { 4 ≤ length answer.old }
     ensures { told result answer.new ≡ summary_told ran answer.old }
 {
     match ran {
-        RunAnswer::Refused(refusal) => refusal_number(refusal),
-        RunAnswer::Done(outcome, t) => give(
+        Err(refusal) => refusal.number(),
+        Ok((outcome, t)) => give(
             answer,
             outcome_number(outcome),
             t.elements,

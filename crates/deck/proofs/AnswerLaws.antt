@@ -1,6 +1,6 @@
 -- Laws of `unless`, `or_else` and `first_refusal`, for loops that check one record after the other, and for what an accepted deck says.
 -- Assumes nothing.
-use mathlib.Core.Path.{◌≡◌, refl}
+use mathlib.Core.Path.{◌≡◌, refl, ap, ◌∙◌}
 use mathlib.Core.Logic.{⊎_elim}
 use mathlib.Core.Bool.{Bool, true, false}
 use Prim.Native.Nat.{ℕ, zero, suc, ◌+◌, ◌<◌}
@@ -9,7 +9,7 @@ use native.Mathlib.Omega.{arith}
 use native.Mathlib.Nat.{eq-or-lt_of_le, le_of_suc-le-suc, not-suc-le-zero}
 use Rattle.deck.specs.declared.refusal.Refusal.{Refusal}
 use Rattle.deck.specs.Refusal.{DeckAnswer}
-use Rattle.std.specs.Prelude.{Ok, Err, IsErrAnd}
+use Rattle.std.specs.Prelude.{Result, Ok, Err, IsErrAnd}
 use Rattle.deck.specs.Answer.{unless, or_else, first_refusal}
 
 -- a test that was passed, and the rest
@@ -67,7 +67,11 @@ unfolding first_refusal
 first-same f g zero h = refl
 first-same f g (suc n) h = rw (first-same f g n (λ i l. h i (omega arith)), h n (omega arith))
 
--- a refusal that `?` hands on is the answer
+-- an error that `?` hands on is the answer
+pub handed_on : {T E : Type 0} (a : Result T E) (r : E) → IsErrAnd a (λ q. q ≡ r) → a ≡ Err r
+handed_on (Ok x) r h = absurd h
+handed_on (Err q) r h = ap Err h
+
+-- and what is due of that answer
 pub refused_on : (a b : DeckAnswer) (r : Refusal) → IsErrAnd a (λ q. q ≡ r) → Err r ≡ b → a ≡ b
-refused_on (Ok tt) b r h e = absurd h
-refused_on (Err q) b r h e = rw h e
+refused_on a b r h e = handed_on a r h ∙ e

@@ -16,3 +16,4 @@ pub mod Sound
 pub mod Exprs
 pub mod Reads
 pub mod Same
+pub mod Accepted

@@ -2,6 +2,9 @@
 ghost use Rattle.std.specs.Prelude.{◌≡◌};
 ghost use Rattle.deck.specs.Refusal.{number_of, fault_word};
 
+use std::error::Error;
+use std::fmt;
+
 use crate::numbers::WordIndex;
 
 // The thirteen refusals. Document 01 calls them, in order: short copy, wrong edition, overset,
@@ -58,3 +61,19 @@ impl Refusal {
         }
     }
 }
+
+// The number, and after a space the word if there is one.
+impl fmt::Display for Refusal {
+    fn fmt<W: fmt::Write>(&self, f: &mut fmt::Formatter<W>) -> fmt::Result {
+        let number = self.number();
+        match self.word() {
+            Some(word) => {
+                let index = word.0;
+                write!(f, "{number} {index}")
+            }
+            None => write!(f, "{number}"),
+        }
+    }
+}
+
+impl Error for Refusal {}

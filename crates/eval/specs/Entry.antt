@@ -1,7 +1,8 @@
 -- What judging one concept or axiom over a lent structure answers. Document 01, section 1: "1 to 4; then records in part order, each tested for 5, 6, 7; .. 10, 11 for judging one concept or axiom over a lent structure".
+use Rattle.std.specs.Prelude.{Result, Ok, Err}
 use Rattle.std.specs.Prelude.{ℕ, Bool, ◌&&◌, List, ltb}
-use Rattle.deck.specs.declared.DeckAnswer.{DeckAnswer}
-use Rattle.deck.specs.declared.DeckAnswer.TheVariants.{Accepted, Refused}
+use Rattle.deck.specs.Refusal.{DeckAnswer}
+use Rattle.deck.specs.declared.refusal.Refusal.{Refusal}
 use Rattle.deck.specs.declared.refusal.Refusal.TheVariants.{ForeignStructure, AbsentIndex}
 use Rattle.deck.specs.Answer.{unless, or_else}
 use Rattle.deck.specs.Records.{deck_answer}
@@ -10,12 +11,17 @@ use Rattle.deck.specs.Content.{deck_of}
 use Rattle.eval.specs.declared.shape.Shape.{Shape}
 use Rattle.eval.specs.declared.judgement.Judgement.{Judgement}
 use Rattle.eval.specs.declared.verdict.Verdict.{Verdict}
-use Rattle.eval.specs.declared.entry.ConceptAnswer.{ConceptAnswer}
-use Rattle.eval.specs.declared.entry.AxiomAnswer.{AxiomAnswer}
 use Rattle.eval.specs.Lent.{structure_of}
 use Rattle.eval.specs.Foreign.{structure_fits}
 use Rattle.eval.specs.Judge.{judge}
 use Rattle.eval.specs.Verdict.{verdict}
+
+-- a refusal, or the judgement of a concept, or the verdict of an axiom
+abbrev pub ConceptAnswer : Type 0
+ConceptAnswer = Result Judgement Refusal
+
+abbrev pub AxiomAnswer : Type 0
+AxiomAnswer = Result Verdict Refusal
 
 -- the counts that are lent with the buffers
 abbrev pub shape_of : ℕ → ℕ → Shape
@@ -23,21 +29,21 @@ shape_of elements edges = record { elements = elements; edges = edges }
 
 -- "1 to 4; then records in part order, each tested for 5, 6, 7", then 10
 unfoldable pub lent_answer : List ℕ → List ℕ → List (List ℕ) → Shape → DeckAnswer
-lent_answer s labels rows shape = or_else (deck_answer s) (unless (structure_fits (deck_of s) labels rows shape) ForeignStructure Accepted)
+lent_answer s labels rows shape = or_else (deck_answer s) (unless (structure_fits (deck_of s) labels rows shape) ForeignStructure (Ok tt))
 
 -- then 11: "axiom, concept or element index past its count"
 abbrev pub index_answer : Bool → DeckAnswer
-index_answer present = unless present AbsentIndex Accepted
+index_answer present = unless present AbsentIndex (Ok tt)
 
 -- "A refusal returns only its number", else the judgement
 abbrev pub judged_unless : DeckAnswer → Judgement → ConceptAnswer
-judged_unless Accepted j = ConceptAnswer.Judged j
-judged_unless (Refused r) j = ConceptAnswer.Refused r
+judged_unless (Ok tt) j = Ok j
+judged_unless (Err r) j = Err r
 
 -- the same with the verdict
 abbrev pub checked_unless : DeckAnswer → Verdict → AxiomAnswer
-checked_unless Accepted v = AxiomAnswer.Checked v
-checked_unless (Refused r) v = AxiomAnswer.Refused r
+checked_unless (Ok tt) v = Ok v
+checked_unless (Err r) v = Err r
 
 -- "judging one concept": c at element e
 unfoldable pub concept_answer : List ℕ → List ℕ → List (List ℕ) → Shape → ℕ → ℕ → ConceptAnswer

@@ -2,8 +2,6 @@
 ghost use Rattle.std.specs.Prelude.{true, ◌≡◌};
 ghost use Rattle.deck.specs.Content.{deck_of};
 ghost use Rattle.deck.specs.Deck.{axiom_at};
-ghost use Rattle.eval.specs.declared.entry.AxiomAnswer.{AxiomAnswer};
-ghost use Rattle.eval.specs.declared.entry.ConceptAnswer.{ConceptAnswer};
 ghost use Rattle.eval.specs.declared.judgement.Judgement.{Judgement};
 ghost use Rattle.eval.specs.declared.verdict.Verdict.{Verdict};
 ghost use Rattle.eval.specs.Entry.{shape_of, lent_answer, concept_answer, axiom_answer};
@@ -21,32 +19,17 @@ use deck::axioms::axiom_count;
 use deck::concepts::concept_count;
 use deck::numbers::{ConceptId, Element};
 use deck::refusal::Refusal;
-use deck::{DeckAnswer, check_deck};
-
-#[derive(Clone, Copy)]
-pub enum ConceptAnswer {
-    Refused(Refusal),
-    Judged(Judgement),
-}
-
-#[derive(Clone, Copy)]
-pub enum AxiomAnswer {
-    Refused(Refusal),
-    Checked(Verdict),
-}
+use deck::check_deck;
 
 // Are the deck and the lent structure in order? If not, the first refusal.
-fn lent_answer(deck: &[u8], labels: &[u64], edges: &[[u32; 3]], shape: Shape) -> DeckAnswer
+fn lent_answer(deck: &[u8], labels: &[u64], edges: &[[u32; 3]], shape: Shape) -> Result<(), Refusal>
     ensures { result ≡ lent_answer deck.now labels.now edges.now shape }
 {
-    let answer = check_deck(deck);
-    if let DeckAnswer::Refused(_) = answer {
-        return answer;
-    }
+    check_deck(deck)?;
     if !structure_fits(deck, labels, edges, shape) {
-        return DeckAnswer::Refused(Refusal::ForeignStructure);
+        return Err(Refusal::ForeignStructure);
     }
-    DeckAnswer::Accepted
+    Ok(())
 }
 
 // Is the element in the concept, in the structure of the first `elements` labels and the first `edge_count` edges?
@@ -58,26 +41,23 @@ pub fn eval_concept_in(
     edge_count: u32,
     concept: ConceptId,
     element: Element,
-) -> ConceptAnswer
+) -> Result<Judgement, Refusal>
     ensures is { result ≡ concept_answer deck.now labels.now edges.now (shape_of elements edge_count) concept.0 element.0 }
-    ensures right { (j : Judgement) → result ≡ ConceptAnswer.Judged j → (χ : Choice) → Right j (ext (deck_of deck.now) (structure_of (deck_of deck.now) labels.now edges.now (shape_of elements edge_count)) χ concept.0 element.0) }
-    ensures exact { (j : Judgement) → result ≡ ConceptAnswer.Judged j → plain (deck_of deck.now) concept.0 ≡ true → (χ : Choice) → j ≡ truth (ext (deck_of deck.now) (structure_of (deck_of deck.now) labels.now edges.now (shape_of elements edge_count)) χ concept.0 element.0) }
+    ensures right { (j : Judgement) → result ≡ Ok j → (χ : Choice) → Right j (ext (deck_of deck.now) (structure_of (deck_of deck.now) labels.now edges.now (shape_of elements edge_count)) χ concept.0 element.0) }
+    ensures exact { (j : Judgement) → result ≡ Ok j → plain (deck_of deck.now) concept.0 ≡ true → (χ : Choice) → j ≡ truth (ext (deck_of deck.now) (structure_of (deck_of deck.now) labels.now edges.now (shape_of elements edge_count)) χ concept.0 element.0) }
 {
     let shape = Shape {
         elements: elements,
         edges: edge_count,
     };
-    let answer = lent_answer(deck, labels, edges, shape);
-    if let DeckAnswer::Refused(refusal) = answer {
-        return ConceptAnswer::Refused(refusal);
-    }
+    lent_answer(deck, labels, edges, shape)?;
     if concept.0 >= concept_count(deck) {
-        return ConceptAnswer::Refused(Refusal::AbsentIndex);
+        return Err(Refusal::AbsentIndex);
     }
     if element.0 >= elements {
-        return ConceptAnswer::Refused(Refusal::AbsentIndex);
+        return Err(Refusal::AbsentIndex);
     }
-    ConceptAnswer::Judged(judge_concept(deck, labels, edges, shape, concept, element))
+    Ok(judge_concept(deck, labels, edges, shape, concept, element))
 }
 
 // Is the axiom satisfied in that structure?
@@ -88,20 +68,17 @@ pub fn check_axiom_in(
     edges: &[[u32; 3]],
     edge_count: u32,
     axiom: u32,
-) -> AxiomAnswer
+) -> Result<Verdict, Refusal>
     ensures is { result ≡ axiom_answer deck.now labels.now edges.now (shape_of elements edge_count) «axiom» }
-    ensures justified { (v : Verdict) → result ≡ AxiomAnswer.Checked v → Justified (deck_of deck.now) (structure_of (deck_of deck.now) labels.now edges.now (shape_of elements edge_count)) (axiom_at (deck_of deck.now) «axiom») v }
+    ensures justified { (v : Verdict) → result ≡ Ok v → Justified (deck_of deck.now) (structure_of (deck_of deck.now) labels.now edges.now (shape_of elements edge_count)) (axiom_at (deck_of deck.now) «axiom») v }
 {
     let shape = Shape {
         elements: elements,
         edges: edge_count,
     };
-    let answer = lent_answer(deck, labels, edges, shape);
-    if let DeckAnswer::Refused(refusal) = answer {
-        return AxiomAnswer::Refused(refusal);
-    }
+    lent_answer(deck, labels, edges, shape)?;
     if axiom >= axiom_count(deck) {
-        return AxiomAnswer::Refused(Refusal::AbsentIndex);
+        return Err(Refusal::AbsentIndex);
     }
-    AxiomAnswer::Checked(judge_axiom(deck, labels, edges, shape, axiom))
+    Ok(judge_axiom(deck, labels, edges, shape, axiom))
 }

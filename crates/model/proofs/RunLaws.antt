@@ -1,4 +1,5 @@
 -- Demand 3 as a theorem over the definition of a run: `trusted`.
+use Rattle.std.specs.Prelude.{Ok, Err}
 use Prim.Native.Nat.{ℕ, zero, suc, ◌+◌, ◌-◌, ◌*◌, ◌/◌, ◌<◌, ◌≤◌}
 use mathlib.Core.Bool.{Bool, true, false, not, cond, ◌||◌}
 use mathlib.Core.Path.{◌≡◌, refl, sym, ap, ◌∙◌, subst}
@@ -9,8 +10,7 @@ use lib.ListN.{length, get_or, drop, length-map, get_or-append}
 use lib.Dec.{ltb}
 use borrow.Author.Tests.{le-leb, lt-ltb}
 use Rattle.deck.specs.declared.refusal.Refusal.{Refusal}
-use Rattle.deck.specs.declared.DeckAnswer.{DeckAnswer}
-use Rattle.deck.specs.declared.DeckAnswer.TheVariants.{Accepted, Refused}
+use Rattle.deck.specs.Refusal.{DeckAnswer}
 use Rattle.deck.specs.Answer.{unless, or_else}
 use Rattle.deck.specs.Records.{deck_answer}
 use Rattle.deck.specs.Deck.{Deck, Axiom, axiom_at, axiom_count, class_at, class_count, has}
@@ -35,7 +35,7 @@ use Rattle.build.specs.declared.bounds.Bounds.{Bounds}
 use Rattle.build.specs.declared.tally.Tally.{Tally}
 use Rattle.model.specs.declared.outcome.Outcome.{Outcome}
 use Rattle.model.specs.declared.outcome.Outcome.TheVariants.{Confirmed, Open}
-use Rattle.model.specs.declared.run.RunAnswer.{RunAnswer}
+use Rattle.model.specs.Run.{RunAnswer}
 use Rattle.atoms.specs.Label.{label_has}
 use Rattle.atoms.specs.Rows.{put, flat, row_at, Wide, none, more}
 use Rattle.build.specs.Push.{edge}
@@ -60,16 +60,16 @@ pub record Passed (s : List ℕ) (B : Bounds) (last labels edges verdicts : ℕ)
   pub bounds : BoundsIn B last
   pub room : RoomIn (deck_of s) B labels edges verdicts
 
-pub passed : (s : List ℕ) (B : Bounds) (last labels edges verdicts : ℕ) → run_refusal s B last labels edges verdicts ≡ Accepted → Passed s B last labels edges verdicts
+pub passed : (s : List ℕ) (B : Bounds) (last labels edges verdicts : ℕ) → run_refusal s B last labels edges verdicts ≡ Ok tt → Passed s B last labels edges verdicts
 unfolding run_refusal
 passed s B last labels edges verdicts = by (deck_answer s) refl (bounds_fit B last) refl (room_fits (deck_of s) B labels edges verdicts) refl
   where
     by : (a : DeckAnswer) → deck_answer s ≡ a → (b : Bool) → bounds_fit B last ≡ b → (r : Bool) → room_fits (deck_of s) B labels edges verdicts ≡ r
-        → or_else a (unless b Refusal.BadBounds (unless r Refusal.ShortBuffer Accepted)) ≡ Accepted → Passed s B last labels edges verdicts
-    by Accepted p true q true r h = record { deck = p; bounds = bounds-in B last q; room = room_in (deck_of s) B labels edges verdicts r }
-    by Accepted p true q false r h = clash (cc)
-    by Accepted p false q x r h = clash (cc)
-    by (Refused z) p b q x r h = clash (cc)
+        → or_else a (unless b Refusal.BadBounds (unless r Refusal.ShortBuffer (Ok tt))) ≡ Ok tt → Passed s B last labels edges verdicts
+    by (Ok tt) p true q true r h = record { deck = p; bounds = bounds-in B last q; room = room_in (deck_of s) B labels edges verdicts r }
+    by (Ok tt) p true q false r h = clash (cc)
+    by (Ok tt) p false q x r h = clash (cc)
+    by (Err z) p b q x r h = clash (cc)
 
 -- ---- the words of the verdicts
 module _ (D : Deck) (S : Structure) where
@@ -120,12 +120,12 @@ confirmed-by false false h = (refl, refl)
 
 -- what an answer holds; a refusal holds neither
 abbrev outcome_in : RunAnswer → Outcome
-outcome_in (RunAnswer.Refused r) = Open
-outcome_in (RunAnswer.Done o t) = o
+outcome_in (Err r) = Open
+outcome_in (Ok (o, t)) = o
 
 abbrev tally_in : RunAnswer → Tally
-tally_in (RunAnswer.Refused r) = record { elements = 0; edges = 0; reasons = 0 }
-tally_in (RunAnswer.Done o t) = t
+tally_in (Err r) = record { elements = 0; edges = 0; reasons = 0 }
+tally_in (Ok (o, t)) = t
 
 -- ---- demand 3
 module _ (s : List ℕ) (B : Bounds) (last : ℕ) (labels : List ℕ) (edges : List (List ℕ)) (log verdicts : List ℕ) where
@@ -162,7 +162,7 @@ module _ (s : List ℕ) (B : Bounds) (last : ℕ) (labels : List ℕ) (edges : L
   }
 
   -- after every accepted run, whatever deck, bounds and last phase
-  pub trusted : (outcome : Outcome) (t : Tally) → (run s B last labels edges log verdicts).answer ≡ RunAnswer.Done outcome t
+  pub trusted : (outcome : Outcome) (t : Tally) → (run s B last labels edges log verdicts).answer ≡ Ok (outcome, t)
       → Trusted D (structure_of D (run s B last labels edges log verdicts).labels (run s B last labels edges log verdicts).edges (shape_in t)) (run s B last labels edges log verdicts).verdicts outcome
   unfolding run accepted judged
   trusted outcome t = by (run_refusal s B last (length labels) (length edges) (length verdicts)) refl
@@ -170,9 +170,9 @@ module _ (s : List ℕ) (B : Bounds) (last : ℕ) (labels : List ℕ) (edges : L
       left : DeckAnswer → Ran
       left a = unless_refused a (accepted D B last labels edges log verdicts) labels edges log verdicts
 
-      by : (a : DeckAnswer) → run_refusal s B last (length labels) (length edges) (length verdicts) ≡ a → (left a).answer ≡ RunAnswer.Done outcome t → Trusted D (structure_of D (left a).labels (left a).edges (shape_in t)) (left a).verdicts outcome
-      by (Refused r) p h = clash (cc)
-      by Accepted p h =
+      by : (a : DeckAnswer) → run_refusal s B last (length labels) (length edges) (length verdicts) ≡ a → (left a).answer ≡ Ok (outcome, t) → Trusted D (structure_of D (left a).labels (left a).edges (shape_in t)) (left a).verdicts outcome
+      by (Err r) p h = clash (cc)
+      by (Ok tt) p h =
           let e : outcome_of m.state.reasons (verdicts_in D S) ≡ outcome = ap outcome_in h in
           let f : tally_of m ≡ t = ap tally_in h in
           rw (← e, ← f) (trusted-all (sound s (passed s B last (length labels) (length edges) (length verdicts) p).deck))
@@ -203,13 +203,13 @@ ends-fit D n buf es F i h =
 
 -- ---- what the code leaves
 module _ (s : List ℕ) (B : Bounds) (last : ℕ) (labels : List ℕ) (edges : List (List ℕ)) (log verdicts : List ℕ) where
-  pub run-refused : (r : Refusal) → run_refusal s B last (length labels) (length edges) (length verdicts) ≡ Refused r → ran (RunAnswer.Refused r) labels edges log verdicts ≡ run s B last labels edges log verdicts
+  pub run-refused : (r : Refusal) → run_refusal s B last (length labels) (length edges) (length verdicts) ≡ Err r → ran (Err r) labels edges log verdicts ≡ run s B last labels edges log verdicts
   unfolding run
   run-refused r h = rw h
 
   module _ {labels' : List ℕ} {edges' : List (List ℕ)} {log' : List ℕ} {t : Tally} (C : Constructed (deck_of s) B last (lent labels edges log) (lent labels' edges' log') t) where
-    pub run-done : run_refusal s B last (length labels) (length edges) (length verdicts) ≡ Accepted → {r : RunAnswer} {verdicts' : List ℕ}
-        → r ≡ RunAnswer.Done (outcome_of t.reasons (verdicts_in (deck_of s) (structure_of (deck_of s) labels' edges' (shape_in t)))) t
+    pub run-done : run_refusal s B last (length labels) (length edges) (length verdicts) ≡ Ok tt → {r : RunAnswer} {verdicts' : List ℕ}
+        → r ≡ Ok ((outcome_of t.reasons (verdicts_in (deck_of s) (structure_of (deck_of s) labels' edges' (shape_in t)))), t)
         → verdicts' ≡ put verdicts (words_in (verdicts_in (deck_of s) (structure_of (deck_of s) labels' edges' (shape_in t)))) → ran r labels' edges' log' verdicts' ≡ run s B last labels edges log verdicts
     unfolding run accepted judged
     run-done h p q = rw (h, p, q, C.labels, C.edges, C.log, C.tally)
@@ -235,7 +235,7 @@ module _ (s : List ℕ) (B : Bounds) (last : ℕ) (labels : List ℕ) (edges : L
 
 -- the same of what equals a run
 pub trusted-as : (s : List ℕ) (B : Bounds) (last : ℕ) (labels : List ℕ) (edges : List (List ℕ)) (log verdicts : List ℕ) {r : RunAnswer} {labels' : List ℕ} {edges' : List (List ℕ)} {log' verdicts' : List ℕ}
-    → ran r labels' edges' log' verdicts' ≡ run s B last labels edges log verdicts → (outcome : Outcome) (t : Tally) → r ≡ RunAnswer.Done outcome t
+    → ran r labels' edges' log' verdicts' ≡ run s B last labels edges log verdicts → (outcome : Outcome) (t : Tally) → r ≡ Ok (outcome, t)
     → Trusted (deck_of s) (structure_of (deck_of s) labels' edges' (shape_in t)) verdicts' outcome
 trusted-as s B last labels edges log verdicts {r} {labels'} {edges'} {log'} {verdicts'} e outcome t h =
     subst (λ (x : Ran). Trusted (deck_of s) (structure_of (deck_of s) x.labels x.edges (shape_in t)) x.verdicts outcome) (sym e)
@@ -291,7 +291,7 @@ module _ (s : List ℕ) (B : Bounds) (last : ℕ) (labels : List ℕ) (edges : L
       record { labels = refl; edges = refl; log = refl; tally = refl; few = X.elements; room = omega (arith, length-put edges (map row_of m.state.edges) k, length-map m.state.edges row_of, k) }
 
   -- after every accepted run, whatever deck, bounds and last phase
-  pub lendable : (outcome : Outcome) (t : Tally) → (run s B last labels edges log verdicts).answer ≡ RunAnswer.Done outcome t
+  pub lendable : (outcome : Outcome) (t : Tally) → (run s B last labels edges log verdicts).answer ≡ Ok (outcome, t)
       → Lendable (deck_of s) (run s B last labels edges log verdicts).labels (run s B last labels edges log verdicts).edges (shape_in t)
   unfolding run accepted judged
   lendable outcome t = by (run_refusal s B last (length labels) (length edges) (length verdicts)) refl
@@ -299,9 +299,9 @@ module _ (s : List ℕ) (B : Bounds) (last : ℕ) (labels : List ℕ) (edges : L
       left : DeckAnswer → Ran
       left a = unless_refused a (accepted (deck_of s) B last labels edges log verdicts) labels edges log verdicts
 
-      by : (a : DeckAnswer) → run_refusal s B last (length labels) (length edges) (length verdicts) ≡ a → (left a).answer ≡ RunAnswer.Done outcome t → Lendable (deck_of s) (left a).labels (left a).edges (shape_in t)
-      by (Refused r) p h = clash (cc)
-      by Accepted p h =
+      by : (a : DeckAnswer) → run_refusal s B last (length labels) (length edges) (length verdicts) ≡ a → (left a).answer ≡ Ok (outcome, t) → Lendable (deck_of s) (left a).labels (left a).edges (shape_in t)
+      by (Err r) p h = clash (cc)
+      by (Ok tt) p h =
           let P = passed s B last (length labels) (length edges) (length verdicts) p in
           let m = construct (deck_of s) B last log in
           let f : tally_of m ≡ t = ap tally_in h in
@@ -310,11 +310,11 @@ module _ (s : List ℕ) (B : Bounds) (last : ℕ) (labels : List ℕ) (edges : L
 
 -- a run that is done has passed every test
 pub done-passed : (s : List ℕ) (B : Bounds) (last : ℕ) (labels : List ℕ) (edges : List (List ℕ)) (log verdicts : List ℕ) (outcome : Outcome) (t : Tally)
-    → (run s B last labels edges log verdicts).answer ≡ RunAnswer.Done outcome t → Passed s B last (length labels) (length edges) (length verdicts)
+    → (run s B last labels edges log verdicts).answer ≡ Ok (outcome, t) → Passed s B last (length labels) (length edges) (length verdicts)
 unfolding run
 done-passed s B last labels edges log verdicts outcome t = by (run_refusal s B last (length labels) (length edges) (length verdicts)) refl
   where
     by : (a : DeckAnswer) → run_refusal s B last (length labels) (length edges) (length verdicts) ≡ a
-        → (unless_refused a (accepted (deck_of s) B last labels edges log verdicts) labels edges log verdicts).answer ≡ RunAnswer.Done outcome t → Passed s B last (length labels) (length edges) (length verdicts)
-    by Accepted p h = passed s B last (length labels) (length edges) (length verdicts) p
-    by (Refused r) p h = clash (cc)
+        → (unless_refused a (accepted (deck_of s) B last labels edges log verdicts) labels edges log verdicts).answer ≡ Ok (outcome, t) → Passed s B last (length labels) (length edges) (length verdicts)
+    by (Ok tt) p h = passed s B last (length labels) (length edges) (length verdicts) p
+    by (Err r) p h = clash (cc)

@@ -1,4 +1,5 @@
 -- What a run builds of deck W, by the definition alone: the structure of the specimens.
+use Rattle.std.specs.Prelude.{Ok}
 use Prim.Native.Nat.{ℕ, zero, suc, ◌<◌}
 use mathlib.Core.Bool.{false, ◌&&◌, or-false}
 use mathlib.Core.Path.{◌≡◌, refl, sym, ◌∙◌}
@@ -18,7 +19,7 @@ use Rattle.eval.specs.Verdict.{verdict, scan}
 use Rattle.eval.proofs.Specimens.{W, E}
 use Rattle.build.specs.declared.bounds.Bounds.{Bounds}
 use Rattle.model.specs.declared.outcome.Outcome.TheVariants.{Confirmed}
-use Rattle.model.specs.declared.run.RunAnswer.{RunAnswer}
+use Rattle.model.specs.Run.{RunAnswer}
 use Rattle.atoms.specs.Rows.{put, flat}
 use Rattle.model.specs.Outcome.{outcome_of}
 use Rattle.model.specs.Run.{ran, judged, accepted}
@@ -77,10 +78,10 @@ module _ (labels : List ℕ) (edges : List (List ℕ)) where
 
   -- "confirmed 2 1 0", and each axiom holds
   pub run-W : (log verdicts : List ℕ) → accepted (W [] []) bounds 4 labels edges log verdicts
-      ≡ ran (RunAnswer.Done Confirmed (record { elements = 2; edges = 1; reasons = 0 })) (put labels (1 ∷ 3 ∷ [])) (put edges ((0 ∷ 1 ∷ 0 ∷ []) ∷ [])) log (put verdicts (0 ∷ 0 ∷ 0 ∷ 0 ∷ 0 ∷ 0 ∷ 0 ∷ 0 ∷ []))
+      ≡ ran (Ok (Confirmed, (record { elements = 2; edges = 1; reasons = 0 }))) (put labels (1 ∷ 3 ∷ [])) (put edges ((0 ∷ 1 ∷ 0 ∷ []) ∷ [])) log (put verdicts (0 ∷ 0 ∷ 0 ∷ 0 ∷ 0 ∷ 0 ∷ 0 ∷ 0 ∷ []))
   unfolding accepted judged outcome_of verdict scan judge judge_of some_from numbered below successors has_edge range keep any has flat flat_map put edges_of edge_in member_in
   run-W log verdicts = rw (built-W log) judged-W
     where
       judged-W : judged (W [] []) (built log) (put labels (flat (built log).labels)) (put edges (map row_of (built log).state.edges)) verdicts
-          ≡ ran (RunAnswer.Done Confirmed (record { elements = 2; edges = 1; reasons = 0 })) (put labels (1 ∷ 3 ∷ [])) (put edges ((0 ∷ 1 ∷ 0 ∷ []) ∷ [])) log (put verdicts (0 ∷ 0 ∷ 0 ∷ 0 ∷ 0 ∷ 0 ∷ 0 ∷ 0 ∷ []))
+          ≡ ran (Ok (Confirmed, (record { elements = 2; edges = 1; reasons = 0 }))) (put labels (1 ∷ 3 ∷ [])) (put edges ((0 ∷ 1 ∷ 0 ∷ []) ∷ [])) log (put verdicts (0 ∷ 0 ∷ 0 ∷ 0 ∷ 0 ∷ 0 ∷ 0 ∷ 0 ∷ []))
       judged-W = refl

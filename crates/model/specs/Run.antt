@@ -1,8 +1,10 @@
 -- A run: what it answers, and what every lent buffer holds after it, for all inputs.
+use Rattle.std.specs.Prelude.{Result, Ok, Err}
 use Rattle.std.specs.Prelude.{ℕ, ◌+◌, ◌*◌, Bool, ◌&&◌, length, leb}
 use mathlib.Core.List.{List, map, flat_map}
-use Rattle.deck.specs.declared.DeckAnswer.{DeckAnswer}
-use Rattle.deck.specs.declared.DeckAnswer.TheVariants.{Accepted, Refused}
+use Rattle.deck.specs.Refusal.{DeckAnswer}
+use Rattle.deck.specs.declared.refusal.Refusal.{Refusal}
+use Rattle.model.specs.declared.outcome.Outcome.{Outcome}
 use Rattle.deck.specs.declared.refusal.Refusal.TheVariants.{BadBounds, ShortBuffer}
 use Rattle.deck.specs.Answer.{unless, or_else}
 use Rattle.deck.specs.Records.{deck_answer}
@@ -16,7 +18,6 @@ use Rattle.eval.specs.Lent.{label_width, structure_of}
 use Rattle.eval.specs.Verdict.{words_of, verdict}
 use Rattle.build.specs.declared.bounds.Bounds.{Bounds}
 use Rattle.build.specs.declared.tally.Tally.{Tally}
-use Rattle.model.specs.declared.run.RunAnswer.{RunAnswer}
 use Rattle.atoms.specs.Rows.{put, flat}
 use Rattle.build.specs.Model.{Model, top}
 use Rattle.model.specs.Phases.{construct, tally_of}
@@ -33,9 +34,13 @@ room_fits D B labels edges verdicts = leb ((top D B + 1) * label_width D) labels
 -- "1 to 4; then records in part order, each tested for 5, 6, 7; then 8, 9 for a run"
 unfoldable pub run_refusal : List ℕ → Bounds → ℕ → ℕ → ℕ → ℕ → DeckAnswer
 run_refusal s B last labels edges verdicts =
-    or_else (deck_answer s) (unless (bounds_fit B last) BadBounds (unless (room_fits (deck_of s) B labels edges verdicts) ShortBuffer Accepted))
+    or_else (deck_answer s) (unless (bounds_fit B last) BadBounds (unless (room_fits (deck_of s) B labels edges verdicts) ShortBuffer (Ok tt)))
 
 -- ---- what a run leaves
+-- a refusal, or the outcome with how much was built
+abbrev pub RunAnswer : Type 0
+RunAnswer = Result (Outcome × Tally) Refusal
+
 pub record Ran : Type 0 where
   pub answer : RunAnswer
   pub labels : List ℕ
@@ -62,7 +67,7 @@ unfoldable pub judged : Deck → Model → List ℕ → List (List ℕ) → List
 judged D m labels edges verdicts =
     let S = structure_of D labels edges (shape_in (tally_of m)) in
     record {
-      answer = RunAnswer.Done (outcome_of m.state.reasons (verdicts_in D S)) (tally_of m);
+      answer = Ok (outcome_of m.state.reasons (verdicts_in D S), tally_of m);
       labels = labels;
       edges = edges;
       log = m.state.log;
@@ -76,8 +81,8 @@ accepted D B last labels edges log verdicts =
 
 -- "A refusal returns only its number; lent memory stays untouched"
 abbrev pub unless_refused : DeckAnswer → Ran → List ℕ → List (List ℕ) → List ℕ → List ℕ → Ran
-unless_refused Accepted done labels edges log verdicts = done
-unless_refused (Refused r) done labels edges log verdicts = ran (RunAnswer.Refused r) labels edges log verdicts
+unless_refused (Ok tt) done labels edges log verdicts = done
+unless_refused (Err r) done labels edges log verdicts = ran (Err r) labels edges log verdicts
 
 unfoldable pub run : List ℕ → Bounds → ℕ → List ℕ → List (List ℕ) → List ℕ → List ℕ → Ran
 run s B last labels edges log verdicts =

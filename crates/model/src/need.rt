@@ -9,7 +9,7 @@ use build::bounds::Bounds;
 use deck::axioms::axiom_count;
 use deck::classes::class_count;
 use deck::refusal::Refusal;
-use deck::{DeckAnswer, check_deck};
+use deck::check_deck;
 use eval::labels::label_width;
 
 fn bounds_fit(bounds: Bounds, last_phase: u32) -> bool
@@ -77,7 +77,7 @@ fn room_fits(deck: &[u8], bounds: Bounds, labels: usize, edges: usize, verdicts:
     4 * axiom_count(deck) as usize <= verdicts
 }
 
-// Accepted, or the first refusal of a run that lends buffers of these lengths.
+// The first refusal of a run, if there is one, that lends buffers of these lengths.
 pub fn run_refusal(
     deck: &[u8],
     bounds: Bounds,
@@ -85,18 +85,15 @@ pub fn run_refusal(
     labels: usize,
     edges: usize,
     verdicts: usize,
-) -> DeckAnswer
+) -> Result<(), Refusal>
     ensures { result ≡ run_refusal deck.now bounds last_phase labels edges verdicts }
 {
-    let answer = check_deck(deck);
-    if let DeckAnswer::Refused(_) = answer {
-        return answer;
-    }
+    check_deck(deck)?;
     if !bounds_fit(bounds, last_phase) {
-        return DeckAnswer::Refused(Refusal::BadBounds);
+        return Err(Refusal::BadBounds);
     }
     if !room_fits(deck, bounds, labels, edges, verdicts) {
-        return DeckAnswer::Refused(Refusal::ShortBuffer);
+        return Err(Refusal::ShortBuffer);
     }
-    DeckAnswer::Accepted
+    Ok(())
 }

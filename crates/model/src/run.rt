@@ -4,7 +4,6 @@ ghost use Rattle.deck.specs.Content.{IsAccepted, deck_of};
 ghost use Rattle.deck.specs.Deck.{axiom_count};
 ghost use Rattle.eval.specs.Lent.{Fits, label_width, structure_of};
 ghost use Rattle.model.specs.declared.outcome.Outcome.{Outcome};
-ghost use Rattle.model.specs.declared.run.RunAnswer.{RunAnswer};
 ghost use Rattle.build.specs.declared.tally.Tally.{Tally};
 ghost use Rattle.build.specs.Model.{lent, top};
 ghost use Rattle.model.specs.Outcome.{outcome_of};
@@ -21,17 +20,9 @@ use crate::outcome::Outcome;
 use crate::phases::construct;
 use build::bounds::Bounds;
 use build::tally::Tally;
-use deck::DeckAnswer;
 use deck::refusal::Refusal;
 use eval::labels::label_width;
 use eval::shape::Shape;
-
-// A refusal, or the outcome with how much was built.
-#[derive(Clone, Copy)]
-pub enum RunAnswer {
-    Refused(Refusal),
-    Done(Outcome, Tally),
-}
 
 // The floor and the label in the making are the build's own; the rest is lent.
 fn build(
@@ -70,10 +61,10 @@ fn judge(
     edges: &[[u32; 3]],
     t: Tally,
     verdicts: &mut [u32],
-) -> RunAnswer
+) -> (Outcome, Tally)
     requires fits { Fits deck.now labels.now edges.now (shape_in t) }
     requires deck_in_bounds { 4 * axiom_count (deck_of deck.now) ≤ length verdicts.old }
-    ensures value { result ≡ RunAnswer.Done (outcome_of t.reasons (verdicts_in (deck_of deck.now) (structure_of (deck_of deck.now) labels.now edges.now (shape_in t)))) t }
+    ensures value { result ≡ ((outcome_of t.reasons (verdicts_in (deck_of deck.now) (structure_of (deck_of deck.now) labels.now edges.now (shape_in t)))), t) }
     ensures verdicts_after { verdicts.new ≡ put verdicts.old (words_in (verdicts_in (deck_of deck.now) (structure_of (deck_of deck.now) labels.now edges.now (shape_in t)))) }
 {
     let shape = Shape {
@@ -81,7 +72,7 @@ fn judge(
         edges: t.edges,
     };
     let judged = judge_axioms(deck, labels, edges, shape, verdicts);
-    RunAnswer::Done(outcome(judged, t.reasons), t)
+    (outcome(judged, t.reasons), t)
 }
 
 // Reads the deck, builds its structure within the bounds up to the last phase, and judges every axiom in it.
@@ -93,23 +84,20 @@ pub fn run(
     edges: &mut [[u32; 3]],
     log: &mut [u32],
     verdicts: &mut [u32],
-) -> RunAnswer
+) -> Result<(Outcome, Tally), Refusal>
     ensures is { ran result labels.new edges.new log.new verdicts.new
         ≡ spec.run deck.now bounds last_phase labels.old edges.old log.old verdicts.old }
-    ensures trusted { (outcome : Outcome) (t : Tally) → result ≡ RunAnswer.Done outcome t
+    ensures trusted { (outcome : Outcome) (t : Tally) → result ≡ Ok (outcome, t)
         → Trusted (deck_of deck.now) (structure_of (deck_of deck.now) labels.new edges.new (shape_in t)) verdicts.new outcome }
 {
-    let answer = run_refusal(
+    run_refusal(
         deck,
         bounds,
         last_phase,
         labels.len(),
         edges.len(),
         verdicts.len(),
-    );
-    if let DeckAnswer::Refused(refusal) = answer {
-        return RunAnswer::Refused(refusal);
-    }
+    )?;
     let t = build(deck, bounds, last_phase, labels, edges, log);
-    judge(deck, labels, edges, t, verdicts)
+    Ok(judge(deck, labels, edges, t, verdicts))
 }

@@ -1,5 +1,6 @@
 -- How long the text can be. Assumes nothing.
 --     text-fits      any text fits in 204,864 bytes
+use Rattle.std.specs.Prelude.{Ok, Err}
 use mathlib.Core.Path.{◌≡◌, refl}
 use mathlib.Core.Bool.{Bool, true, false, cond}
 use mathlib.Core.List.{List, [], ◌∷◌, ◌++◌}
@@ -12,7 +13,7 @@ use Rattle.deck.specs.Content.{deck_of}
 use Rattle.deck.specs.Refusal.{number_of}
 use Rattle.model.specs.declared.outcome.Outcome.{Outcome}
 use Rattle.model.specs.declared.outcome.Outcome.TheVariants.{Confirmed, Failed, Open}
-use Rattle.model.specs.declared.run.RunAnswer.{RunAnswer}
+use Rattle.model.specs.Run.{RunAnswer}
 use Rattle.build.specs.declared.tally.Tally.{Tally}
 use Rattle.model.proofs.RunLaws.{done-passed}
 use Rattle.report.specs.Lines.{digit, spelt, decimal, field, outcome_word, holds_word, fails_word, open_word, summary_line, witness, verdict_text, verdict_line, refusal_line}
@@ -89,7 +90,7 @@ done-most : (o : Outcome) (t : Tally) (words : List ℕ) (n : ℕ) → n ≤ 409
 done-most o t words n h = simp length-append (omega (arith, summary-most o t, axioms-most words n))
 
 -- a run that is done has at most 4,096 axioms
-pub few-axioms : (s : List ℕ) (o : Outcome) (t : Tally) → (program_run s).answer ≡ RunAnswer.Done o t → axiom_count (deck_of s) ≤ 4096
+pub few-axioms : (s : List ℕ) (o : Outcome) (t : Tally) → (program_run s).answer ≡ Ok (o, t) → axiom_count (deck_of s) ≤ 4096
 unfolding program_run verdicts_lent
 few-axioms s o t h =
     let P = done-passed s program_bounds 4 labels_lent edges_lent log_lent verdicts_lent o t h in
@@ -101,5 +102,5 @@ text-fits s = by (ltb 65536 (length s)) (program_run s).answer refl
   where
     by : (b : Bool) (a : RunAnswer) → (program_run s).answer ≡ a → length (cond b (refusal_line 9) (answer_text a (axiom_count (deck_of s)) (program_run s).verdicts)) ≤ 204864
     by true a p = omega (arith, refusal-most 9)
-    by false (RunAnswer.Refused r) p = omega (arith, refusal-most (number_of r))
-    by false (RunAnswer.Done o t) p = done-most o t (program_run s).verdicts (axiom_count (deck_of s)) (few-axioms s o t p)
+    by false (Err r) p = omega (arith, refusal-most (number_of r))
+    by false (Ok (o, t)) p = done-most o t (program_run s).verdicts (axiom_count (deck_of s)) (few-axioms s o t p)

@@ -2,6 +2,7 @@
 --     run-text       the text of what equals the program's run
 --     report-short, report-done, report-whole   what a lent buffer then holds
 --     confirms       a text that begins with "confirmed" is that of a confirmed run, with all that is promised of one
+use Rattle.std.specs.Prelude.{Ok, Err}
 use mathlib.Core.Path.{◌≡◌, refl, ap, ◌∙◌}
 use mathlib.Core.Bool.{Bool, true, false, cond}
 use mathlib.Core.List.{List}
@@ -16,7 +17,7 @@ use Rattle.deck.specs.Deck.{axiom_count}
 use Rattle.deck.specs.Content.{deck_of}
 use Rattle.model.specs.declared.outcome.Outcome.{Outcome}
 use Rattle.model.specs.declared.outcome.Outcome.TheVariants.{Confirmed, Failed, Open}
-use Rattle.model.specs.declared.run.RunAnswer.{RunAnswer}
+use Rattle.model.specs.Run.{RunAnswer}
 use Rattle.build.specs.declared.tally.Tally.{Tally}
 use Rattle.atoms.specs.Rows.{put}
 use Rattle.eval.specs.Lent.{structure_of}
@@ -65,7 +66,7 @@ report-whole s out {out'} {r} f h =
 abbrev first : List ℕ → ℕ
 first l = get_or l 0 0
 
-vouched : (s : List ℕ) (o : Outcome) (t : Tally) → (program_run s).answer ≡ RunAnswer.Done o t
+vouched : (s : List ℕ) (o : Outcome) (t : Tally) → (program_run s).answer ≡ Ok (o, t)
     → Trusted (deck_of s) (structure_of (deck_of s) (program_run s).labels (program_run s).edges (shape_in t)) (program_run s).verdicts o
 unfolding program_run
 vouched s o t h = trusted s program_bounds 4 labels_lent edges_lent log_lent verdicts_lent o t h
@@ -76,7 +77,7 @@ confirms s = by (ltb 65536 (length s)) (program_run s).answer refl
   where
     by : (b : Bool) (a : RunAnswer) → (program_run s).answer ≡ a → take 9 (cond b (refusal_line 9) (answer_text a (axiom_count (deck_of s)) (program_run s).verdicts)) ≡ outcome_word Confirmed → Confirms s
     by true a p h = absurd (omega (arith, ap first h))
-    by false (RunAnswer.Refused r) p h = absurd (omega (arith, ap first h))
-    by false (RunAnswer.Done Failed t) p h = absurd (omega (arith, ap first h))
-    by false (RunAnswer.Done Open t) p h = absurd (omega (arith, ap first h))
-    by false (RunAnswer.Done Confirmed t) p h = record { tally = t; done = p; trusted = vouched s Confirmed t p }
+    by false (Err r) p h = absurd (omega (arith, ap first h))
+    by false (Ok (Failed, t)) p h = absurd (omega (arith, ap first h))
+    by false (Ok (Open, t)) p h = absurd (omega (arith, ap first h))
+    by false (Ok (Confirmed, t)) p h = record { tally = t; done = p; trusted = vouched s Confirmed t p }

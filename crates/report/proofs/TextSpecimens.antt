@@ -1,13 +1,13 @@
 -- The text of deck W, computed from its bytes: document 01, "All it prints".
+use Rattle.std.specs.Prelude.{Ok}
 use mathlib.Core.Path.{◌≡◌}
 use mathlib.Core.List.{List, [], ◌∷◌, flat_map}
 use Prim.Native.Nat.{ℕ}
 use lib.ListN.{length, length-replicate}
-use Rattle.deck.specs.declared.DeckAnswer.TheVariants.{Accepted}
 use Rattle.eval.proofs.DeckW.{deck_w, is-W}
 use Rattle.eval.proofs.DeckW as read
 use Rattle.model.specs.declared.outcome.Outcome.TheVariants.{Confirmed}
-use Rattle.model.specs.declared.run.RunAnswer.{RunAnswer}
+use Rattle.model.specs.Run.{RunAnswer}
 use Rattle.atoms.specs.Rows.{put}
 use Rattle.model.specs.Run.{bounds_fit, room_fits, run_refusal, ran, run}
 use Rattle.model.proofs.RunSpecimens.{run-W}
@@ -27,12 +27,12 @@ unfolding verdicts_lent
 verdicts-long = length-replicate {A = ℕ} 16384 0
 
 -- the program's buffers are long enough for it
-not-refused : run_refusal deck_w program_bounds 4 (length labels_lent) (length edges_lent) (length verdicts_lent) ≡ Accepted
+not-refused : run_refusal deck_w program_bounds 4 (length labels_lent) (length edges_lent) (length verdicts_lent) ≡ Ok tt
 unfolding run_refusal bounds_fit room_fits
 not-refused = rw (read.accepted, is-W, labels-long, edges-long, verdicts-long)
 
 run-of-W : program_run deck_w
-    ≡ ran (RunAnswer.Done Confirmed (record { elements = 2; edges = 1; reasons = 0 })) (put labels_lent (1 ∷ 3 ∷ [])) (put edges_lent ((0 ∷ 1 ∷ 0 ∷ []) ∷ [])) log_lent
+    ≡ ran (Ok (Confirmed, (record { elements = 2; edges = 1; reasons = 0 }))) (put labels_lent (1 ∷ 3 ∷ [])) (put edges_lent ((0 ∷ 1 ∷ 0 ∷ []) ∷ [])) log_lent
     (put verdicts_lent (0 ∷ 0 ∷ 0 ∷ 0 ∷ 0 ∷ 0 ∷ 0 ∷ 0 ∷ []))
 unfolding program_run run
 run-of-W = rw (not-refused, is-W) (run-W labels_lent edges_lent log_lent verdicts_lent)

@@ -1,4 +1,5 @@
 -- The whole text of the program: document 01, "The program".
+use Rattle.std.specs.Prelude.{Ok, Err}
 use Rattle.std.specs.Prelude.{ℕ, zero, suc, ◌+◌, ◌*◌, cond, ◌≡◌, List, [], ◌∷◌, ◌++◌, ltb, length, get_or, replicate}
 use Rattle.deck.specs.Refusal.{number_of}
 use Rattle.deck.specs.Deck.{axiom_count}
@@ -6,7 +7,7 @@ use Rattle.deck.specs.Content.{deck_of}
 use Rattle.eval.specs.Lent.{structure_of}
 use Rattle.build.specs.declared.bounds.Bounds.{Bounds}
 use Rattle.model.specs.declared.outcome.Outcome.TheVariants.{Confirmed}
-use Rattle.model.specs.declared.run.RunAnswer.{RunAnswer}
+use Rattle.model.specs.Run.{RunAnswer}
 use Rattle.build.specs.declared.tally.Tally.{Tally}
 use Rattle.atoms.specs.Rows.{put}
 use Rattle.model.specs.Run.{Ran, run, shape_in}
@@ -46,8 +47,8 @@ axiom_lines words (suc n) = axiom_lines words n ++ axiom_line words n
 
 -- "It prints outcome, elements, edges, reasons; then per axiom"; "Refusal: `refused` and number."
 abbrev pub answer_text : RunAnswer → ℕ → List ℕ → List ℕ
-answer_text (RunAnswer.Refused r) n words = refusal_line (number_of r)
-answer_text (RunAnswer.Done o t) n words = summary_line o t ++ axiom_lines words n
+answer_text (Err r) n words = refusal_line (number_of r)
+answer_text (Ok (o, t)) n words = summary_line o t ++ axiom_lines words n
 
 abbrev pub run_text : List ℕ → Ran → List ℕ
 run_text s r = answer_text r.answer (axiom_count (deck_of s)) r.verdicts
@@ -77,5 +78,5 @@ report s out = cond (ltb (length out) (length (program_text s))) (reported 0 out
 -- the program's run is confirmed, and what is promised of a confirmed run holds of its structure
 pub record Confirms (s : List ℕ) : Type 0 where
   pub tally : Tally
-  pub done : (program_run s).answer ≡ RunAnswer.Done Confirmed tally
+  pub done : (program_run s).answer ≡ Ok (Confirmed, tally)
   pub trusted : Trusted (deck_of s) (structure_of (deck_of s) (program_run s).labels (program_run s).edges (shape_in tally)) (program_run s).verdicts Confirmed

@@ -3,7 +3,6 @@ ghost use Rattle.std.specs.Prelude.{◌≡◌, ◌+◌, ◌*◌, ◌<◌, ◌≤
 ghost use Rattle.deck.specs.Content.{IsAccepted, deck_of};
 ghost use Rattle.deck.specs.Deck.{axiom_count};
 ghost use Rattle.model.specs.declared.outcome.Outcome.{Outcome};
-ghost use Rattle.model.specs.declared.run.RunAnswer.{RunAnswer};
 ghost use Rattle.build.specs.declared.tally.Tally.{Tally};
 ghost use Rattle.report.specs.Text.{axiom_line, axiom_lines, answer_text, program_run, run_text, program_text};
 ghost use Rattle.report.specs.Text.{labels_lent as Text·labels, edges_lent as Text·edges, log_lent as Text·log, verdicts_lent as Text·verdicts};
@@ -11,9 +10,11 @@ ghost use Rattle.report.specs.Writes.{Wrote};
 
 use crate::lines::{refusal_line, summary_line, verdict_line};
 use build::bounds::Bounds;
+use build::tally::Tally;
 use deck::axioms::axiom_count;
-use deck::refusal::{Refusal, refusal_number};
-use model::run::{RunAnswer, run};
+use deck::refusal::Refusal;
+use model::outcome::Outcome;
+use model::run::run;
 
 // Labels for N up to 256: 256 + 1 of them, of four words each.
 fn label_room() -> [u64; 1028]
@@ -83,15 +84,15 @@ fn put_axioms(buf: &mut [u8], at: usize, verdicts: &[u32], axioms: u32) -> usize
 }
 
 // The text of a run's answer; a run that is done has accepted the deck and had room for the verdicts.
-fn put_answer(buf: &mut [u8], deck: &[u8], verdicts: &[u32], answer: RunAnswer) -> usize
+fn put_answer(buf: &mut [u8], deck: &[u8], verdicts: &[u32], answer: Result<(Outcome, Tally), Refusal>) -> usize
     requires in_bounds { 204864 ≤ length buf.old }
     requires verdicts_len_bound { length verdicts.now ≤ 16384 }
-    requires accepted { (outcome : Outcome) (t : Tally) → answer ≡ RunAnswer.Done outcome t → IsAccepted deck.now × (4 * axiom_count (deck_of deck.now) ≤ length verdicts.now) }
+    requires accepted { (outcome : Outcome) (t : Tally) → answer ≡ Ok (outcome, t) → IsAccepted deck.now × (4 * axiom_count (deck_of deck.now) ≤ length verdicts.now) }
     ensures { Wrote buf.old 0 (answer_text answer (axiom_count (deck_of deck.now)) verdicts.now) buf.new result }
 {
     match answer {
-        RunAnswer::Refused(refusal) => refusal_line(buf, refusal_number(refusal)),
-        RunAnswer::Done(outcome, t) => {
+        Err(refusal) => refusal_line(buf, refusal.number()),
+        Ok((outcome, t)) => {
             let next = summary_line(buf, outcome, t);
             put_axioms(buf, next, verdicts, axiom_count(deck))
         }
@@ -130,7 +131,7 @@ pub fn put_text(buf: &mut [u8], input: &[u8]) -> usize
     ensures { Wrote buf.old 0 (program_text input.now) buf.new result }
 {
     if 65536 < input.len() {
-        return refusal_line(buf, refusal_number(Refusal::ShortBuffer));
+        return refusal_line(buf, Refusal::ShortBuffer.number());
     }
     put_run(buf, input)
 }

@@ -13,7 +13,6 @@ use atoms::floor::is_universal_antecedent;
 use cases::decks::Read;
 use cases::input::read_full;
 use cases::words::part;
-use deck::DeckAnswer;
 use deck::concepts::concept_count;
 use deck::numbers::ConceptId;
 use std::io;
@@ -43,8 +42,8 @@ fn print_letters(rt: &impl Print, deck: &[u8]) -> io::Result<()>
 fn print_answer(rt: &impl Print, deck: &[u8]) -> io::Result<()> {
     let answer = deck::check_deck(deck);
     match answer {
-        DeckAnswer::Accepted => print_letters(rt, deck),
-        DeckAnswer::Refused(_) => rt.write_all(b" refused"),
+        Ok(()) => print_letters(rt, deck),
+        Err(_) => rt.write_all(b" refused"),
     }
 }
 

@@ -11,27 +11,13 @@ ghost use Rattle.std.specs.Prelude.{◌≡◌, length};
 use cases::decks::Read;
 use cases::input::read_full;
 use cases::words::part;
-use deck::DeckAnswer;
-use deck::refusal::{NO_WORD, Refusal, refusal_number, refusal_word};
+use deck::refusal::Refusal;
 use std::io;
 
-fn print_number(rt: &impl Print, number: u32) -> io::Result<()> {
-    print!(rt; " {number}")
-}
-
-fn print_refusal(rt: &impl Print, refusal: Refusal) -> io::Result<()> {
-    print_number(rt, refusal_number(refusal))?;
-    let word = refusal_word(refusal);
-    if word != NO_WORD {
-        print_number(rt, word)?;
-    }
-    Ok(())
-}
-
-fn print_answer(rt: &impl Print, answer: DeckAnswer) -> io::Result<()> {
+fn print_answer(rt: &impl Print, answer: Result<(), Refusal>) -> io::Result<()> {
     match answer {
-        DeckAnswer::Accepted => print_number(rt, 0),
-        DeckAnswer::Refused(refusal) => print_refusal(rt, refusal),
+        Ok(()) => print!(rt; " 0"),
+        Err(refusal) => print!(rt; " {refusal}"),
     }
 }
 

@@ -4,9 +4,9 @@
 // verdict.
 use cases::numbers::number_at;
 use deck::numbers::{ConceptId, Element};
-use deck::refusal::{NO_WORD, Refusal, refusal_number, refusal_word};
-use eval::entry::{AxiomAnswer, ConceptAnswer};
+use deck::refusal::Refusal;
 use eval::judgement::Judgement;
+use eval::verdict::Verdict;
 use std::io;
 
 // The numbers from `first` on, `count` of them.
@@ -48,14 +48,7 @@ fn digit(tag: u32) -> u8 {
 }
 
 fn print_refusal(rt: &impl Print, refusal: Refusal) -> io::Result<()> {
-    rt.write_all(b"refused ")?;
-    print_number(rt, refusal_number(refusal))?;
-    let word = refusal_word(refusal);
-    if word != NO_WORD {
-        print_byte(rt, b' ')?;
-        print_number(rt, word)?;
-    }
-    Ok(())
+    print!(rt; "refused {refusal}")
 }
 
 fn print_judgement(rt: &impl Print, judgement: Judgement) -> io::Result<()> {
@@ -66,10 +59,10 @@ fn print_judgement(rt: &impl Print, judgement: Judgement) -> io::Result<()> {
     }
 }
 
-fn print_concept(rt: &impl Print, answer: ConceptAnswer) -> io::Result<()> {
+fn print_concept(rt: &impl Print, answer: Result<Judgement, Refusal>) -> io::Result<()> {
     match answer {
-        ConceptAnswer::Refused(refusal) => print_refusal(rt, refusal),
-        ConceptAnswer::Judged(judgement) => print_judgement(rt, judgement),
+        Err(refusal) => print_refusal(rt, refusal),
+        Ok(judgement) => print_judgement(rt, judgement),
     }
 }
 
@@ -83,10 +76,10 @@ fn print_words(rt: &impl Print, words: [u32; 4]) -> io::Result<()> {
     print_number(rt, words[3])
 }
 
-fn print_axiom(rt: &impl Print, answer: AxiomAnswer) -> io::Result<()> {
+fn print_axiom(rt: &impl Print, answer: Result<Verdict, Refusal>) -> io::Result<()> {
     match answer {
-        AxiomAnswer::Refused(refusal) => print_refusal(rt, refusal),
-        AxiomAnswer::Checked(verdict) => print_words(rt, eval::verdict::verdict_words(verdict)),
+        Err(refusal) => print_refusal(rt, refusal),
+        Ok(verdict) => print_words(rt, eval::verdict::verdict_words(verdict)),
     }
 }
 

@@ -1,7 +1,8 @@
 // What a run answers, held to the words of the data, one after the other.
 use cases::words::{after, word_or_0};
 use deck::numbers::{ConceptId, Element};
-use eval::entry::{ConceptAnswer, eval_concept_in};
+use deck::refusal::Refusal;
+use eval::entry::eval_concept_in;
 use eval::judgement::Judgement;
 use std::io;
 
@@ -117,10 +118,10 @@ pub fn expect_words(
 }
 
 // 0 false, 1 true, 2 + tag unresolved; a refusal is above these.
-fn judgement_word(answer: ConceptAnswer) -> u32 {
+fn judgement_word(answer: Result<Judgement, Refusal>) -> u32 {
     match answer {
-        ConceptAnswer::Refused(refusal) => 1000 + deck::refusal::refusal_number(refusal) % 100,
-        ConceptAnswer::Judged(judgement) => match judgement {
+        Err(refusal) => 1000 + refusal.number() % 100,
+        Ok(judgement) => match judgement {
             Judgement::False => 0,
             Judgement::True => 1,
             Judgement::Unresolved(tag) => 2 + tag % 100,

@@ -17,7 +17,6 @@ use cases::words::{MOST, after, part};
 use compared::{Compared, differing, expect};
 use data::{ASKED, Asked};
 use model::outcome::Outcome;
-use model::run::RunAnswer;
 use std::io;
 
 fn outcome_number(outcome: Outcome) -> u32 {
@@ -94,15 +93,8 @@ fn expect_run(
     let bounds = asked.bounds;
     let last = asked.last_phase;
     match model::run::run(deck, bounds, last, labels, edges, log, verdicts) {
-        RunAnswer::Refused(refusal) => {
-            expect(
-                rt,
-                data,
-                c,
-                1000 + deck::refusal::refusal_number(refusal) % 100,
-            )
-        }
-        RunAnswer::Done(outcome, t) => {
+        Err(refusal) => expect(rt, data, c, 1000 + refusal.number() % 100),
+        Ok((outcome, t)) => {
             let told = expect_tally(rt, data, c, outcome, t)?;
             expect_left(rt, data, told, asked, t, deck, labels, edges, log, verdicts)
         }

@@ -19,9 +19,8 @@ use asked::Asked;
 use build::tally::Tally;
 use cases::input::read_full;
 use cases::words::{MOST, part, word_or_0};
-use deck::refusal::{NO_WORD, Refusal, refusal_number, refusal_word};
+use deck::refusal::Refusal;
 use model::outcome::Outcome;
-use model::run::RunAnswer;
 use std::io;
 
 fn print_number(rt: &impl Print, n: u32) -> io::Result<()> {
@@ -44,19 +43,13 @@ fn print_done(rt: &impl Print, outcome: Outcome, tally: Tally) -> io::Result<()>
 }
 
 fn print_refusal(rt: &impl Print, refusal: Refusal) -> io::Result<()> {
-    rt.write_all(b" refused")?;
-    print_number(rt, refusal_number(refusal))?;
-    let word = refusal_word(refusal);
-    if word != NO_WORD {
-        print_number(rt, word)?;
-    }
-    Ok(())
+    print!(rt; " refused {refusal}")
 }
 
-fn print_answer(rt: &impl Print, answer: RunAnswer) -> io::Result<()> {
+fn print_answer(rt: &impl Print, answer: Result<(Outcome, Tally), Refusal>) -> io::Result<()> {
     match answer {
-        RunAnswer::Refused(refusal) => print_refusal(rt, refusal)?,
-        RunAnswer::Done(outcome, tally) => print_done(rt, outcome, tally)?,
+        Err(refusal) => print_refusal(rt, refusal)?,
+        Ok((outcome, tally)) => print_done(rt, outcome, tally)?,
     }
     rt.write_all(b"\n")
 }

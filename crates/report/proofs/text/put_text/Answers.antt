@@ -5,7 +5,7 @@ use Rattle.report.proofs.text.put_text.Goals as goal
 pub returns-then-input-gt65536 : goal.returns-then-input-gt65536
 unfolding program_text
 returns-then-input-gt65536 c =
-    rw (lt-ltb _ _ c.if-input-gt65536.true, ← c.refusal_number.ensures) c.refusal_line.ensures
+    rw (lt-ltb _ _ c.if-input-gt65536.true, ← c.number.ensures) c.refusal_line.ensures
 
 pub returns : goal.returns
 unfolding program_text
