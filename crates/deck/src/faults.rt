@@ -116,6 +116,7 @@ impl Draft<'_> {
     }
 
     // The fault of record k of part p.
+    #[cold]
     pub fn record_fault(&self, p: usize, k: usize) -> Result<(), Refusal>
         requires p_bound { p < 6 }
         requires k_bound { k < part_count self.now.parts.bytes.now p }

@@ -121,6 +121,7 @@ impl<'a> Draft<'a> {
     }
 
     // What a word of a kind is below, where concepts are below `concepts`.
+    #[inline(always)]
     pub fn bound(&self, concepts: usize, kind: Kind) -> usize
         ensures { result ≡ bound_of (counts_of self.now.parts.bytes.now) concepts kind }
     {
@@ -131,6 +132,7 @@ impl<'a> Draft<'a> {
     }
 
     // Whether a word is of a kind.
+    #[inline(always)]
     pub fn field_fits(&self, concepts: usize, kind: Kind, w: u32) -> bool
         ensures { result ≡ fits (counts_of self.now.parts.bytes.now) concepts kind w }
     {
@@ -138,6 +140,7 @@ impl<'a> Draft<'a> {
     }
 
     // Whether field f of record k of part p is of a kind.
+    #[inline(always)]
     fn field_at_fits(&self, p: usize, k: usize, f: usize, concepts: usize, kind: Kind) -> bool
         requires p_bound { p < 6 }
         requires k_bound { k < part_count self.now.parts.bytes.now p }
@@ -148,6 +151,7 @@ impl<'a> Draft<'a> {
     }
 
     // Whether the list whose start is field f, and its count the field after, lies within lists, its words of a kind.
+    #[inline(never)]
     fn list_at_fits(&self, p: usize, k: usize, f: usize, concepts: usize, kind: Kind) -> bool
         requires p_bound { p < 6 }
         requires k_bound { k < part_count self.now.parts.bytes.now p }
@@ -161,6 +165,7 @@ impl<'a> Draft<'a> {
     }
 
     // Whether the three fields from field f on are of a form, where concepts are below `concepts`.
+    #[inline(always)]
     pub fn form_fits(&self, p: usize, k: usize, f: usize, concepts: usize, form: Form) -> bool
         requires p_bound { p < 6 }
         requires k_bound { k < part_count self.now.parts.bytes.now p }

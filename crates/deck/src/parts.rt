@@ -15,6 +15,7 @@ pub struct Parts<'a> {
 }
 
 impl<'a> Parts<'a> {
+    #[inline(always)]
     pub fn trailer(&self) -> Trailer<'a>
         ensures { result.bytes.now ≡ self.now.bytes.now }
     {
@@ -22,6 +23,7 @@ impl<'a> Parts<'a> {
     }
 
     // How many records part p has.
+    #[inline(always)]
     pub fn count(&self, p: usize) -> usize
         requires { p < 7 }
         ensures { result ≡ part_count self.now.bytes.now p }
@@ -37,6 +39,7 @@ impl<'a> Parts<'a> {
     }
 
     // The place of field f of record k of part p, counted in words from word 0.
+    #[inline(always)]
     pub fn part_place(&self, p: usize, k: usize, f: usize) -> usize
         requires p_bound { p < 7 }
         requires k_bound { k < part_count self.now.bytes.now p }
@@ -47,6 +50,7 @@ impl<'a> Parts<'a> {
     }
 
     // Field f of record k of part p.
+    #[inline(always)]
     pub fn part_word(&self, p: usize, k: usize, f: usize) -> u32
         requires p_bound { p < 7 }
         requires k_bound { k < part_count self.now.bytes.now p }
@@ -57,6 +61,7 @@ impl<'a> Parts<'a> {
     }
 
     // A word of lists.
+    #[inline(always)]
     pub fn list_word(&self, i: usize) -> u32
         requires { i < part_count self.now.bytes.now 6 }
         ensures { result ≡ list_word self.now.bytes.now i }

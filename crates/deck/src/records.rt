@@ -127,6 +127,7 @@ impl Draft<'_> {
     }
 
     // A concept that does not fit where operands are below it: whether it would where they are below C.
+    #[cold]
     fn concept_refusal(&self, k: usize) -> Result<(), Refusal>
         requires k_bound { k < part_count self.now.parts.bytes.now 3 }
         requires k_value { concept_shape self.now.parts.bytes.now k k ≡ false }

@@ -32,6 +32,7 @@ pub struct Trailer<'a> {
 
 impl Trailer<'_> {
     // The k-th word of the trailer.
+    #[inline(always)]
     pub fn word(&self, k: usize) -> u32
         requires { k < 18 }
         ensures { result ≡ trailer_word self.now.bytes.now k }
@@ -40,6 +41,7 @@ impl Trailer<'_> {
     }
 
     // How many records part p has.
+    #[inline(always)]
     pub fn part_count(&self, p: usize) -> u32
         requires { p < 7 }
         ensures { result ≡ part_count self.now.bytes.now p }
@@ -48,6 +50,7 @@ impl Trailer<'_> {
     }
 
     // The word at which part p starts.
+    #[inline(always)]
     pub fn part_start(&self, p: usize) -> u32
         requires { p < 7 }
         ensures { result ≡ part_start self.now.bytes.now p }
