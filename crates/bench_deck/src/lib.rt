@@ -29,12 +29,9 @@ pub extern "C" fn check_deck_number(deck: &[u8]) -> u32
 pub extern "C" fn sum_words(deck: &[u8]) -> u32
     ensures { result ≡ sum_of deck.now (length deck.now / 4) }
 {
-    let n = deck.len() / 4;
-    let mut sum = 0;
-    let mut i = 0;
-    while i < n {
-        sum = std::num::wrapping_add_u32(sum, deck::words::word(deck, i));
-        i += 1;
+    let mut sum: u32 = 0;
+    for i in 0..deck.len() / 4 {
+        sum = sum.wrapping_add(deck::words::word(deck, i));
     }
     sum
 }

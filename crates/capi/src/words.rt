@@ -61,14 +61,11 @@ fn outcome_number(outcome: Outcome) -> u32
 }
 
 // Four words at the start of the answer, and 0 to return.
-fn give(answer: &mut [u32], a: u32, b: u32, c: u32, d: u32) -> u32
+fn give(answer: &mut [u32], words: [u32; 4]) -> u32
     requires { 4 ≤ length answer.old }
-    ensures { told result answer.new ≡ given answer.old (a ∷ b ∷ c ∷ d ∷ []) }
+    ensures { told result answer.new ≡ given answer.old words }
 {
-    answer[0] = a;
-    answer[1] = b;
-    answer[2] = c;
-    answer[3] = d;
+    answer[..4].copy_from_slice(&words);
     0
 }
 
@@ -79,10 +76,7 @@ pub fn tell_judgement(answer: &mut [u32], judged: Result<Judgement, Refusal>) ->
 {
     match judged {
         Err(refusal) => refusal.number(),
-        Ok(judgement) => {
-            let w = judgement_words(judgement);
-            give(answer, w[0], w[1], w[2], w[3])
-        }
+        Ok(judgement) => give(answer, judgement_words(judgement)),
     }
 }
 
@@ -92,10 +86,7 @@ pub fn tell_verdict(answer: &mut [u32], checked: Result<Verdict, Refusal>) -> u3
 {
     match checked {
         Err(refusal) => refusal.number(),
-        Ok(verdict) => {
-            let w = verdict_words(verdict);
-            give(answer, w[0], w[1], w[2], w[3])
-        }
+        Ok(verdict) => give(answer, verdict_words(verdict)),
     }
 }
 
@@ -107,10 +98,7 @@ pub fn tell_summary(answer: &mut [u32], ran: Result<(Outcome, Tally), Refusal>) 
         Err(refusal) => refusal.number(),
         Ok((outcome, t)) => give(
             answer,
-            outcome_number(outcome),
-            t.elements,
-            t.edges,
-            t.reasons,
+            [outcome_number(outcome), t.elements, t.edges, t.reasons],
         ),
     }
 }

@@ -17,20 +17,12 @@ struct Place {
     made: usize,
 }
 
-#[derive(Clone, Copy)]
-enum Step {
-    Made(Place),
-    Stuck,
-}
-
 // Copies `count` words.
 fn plain(data: &[u8], read: usize, room: &mut [u8], made: usize, count: usize)
     requires { (read ≤ 1000000) × (made ≤ 1000000) × (count ≤ 1000000) }
 {
-    let mut i = 0;
-    while i < count {
+    for i in 0..count {
         put_word(room, made + i, word_or_0(data, read + i));
-        i += 1;
     }
 }
 
@@ -50,50 +42,45 @@ fn next_due(due: usize, width: usize) -> usize
 fn stepped(data: &[u8], read: usize, room: &mut [u8], made: usize, count: usize, width: usize)
     requires { (read ≤ 1000000) × (made ≤ 1000000) × (count ≤ 1000000) × (width ≤ made) }
 {
-    let mut i = 0;
     let mut due = 0;
-    while i < count {
+    for i in 0..count {
         let before = word_or_0(room, made + i - width);
-        put_word(
-            room,
-            made + i,
-            std::num::wrapping_add_u32(before, word_or_0(data, read + due)),
-        );
+        let word = before.wrapping_add(word_or_0(data, read + due));
+        put_word(room, made + i, word);
         due = next_due(due, width);
-        i += 1;
     }
 }
 
-// Expands one run.
-fn run(data: &[u8], room: &mut [u8], place: Place) -> Step {
+// Expands one run; none where it does not fit.
+fn run(data: &[u8], room: &mut [u8], place: Place) -> Option<Place> {
     let read = place.read;
     let made = place.made;
     if read > MOST - 2 || made > MOST {
-        return Step::Stuck;
+        return None;
     }
     let count = word_or_0(data, read) as usize;
     let width = word_or_0(data, read + 1) as usize;
     if count > MOST - made {
-        return Step::Stuck;
+        return None;
     }
     if width == KEPT {
-        return Step::Made(Place {
+        return Some(Place {
             read: read + 2,
             made: made + count,
         });
     }
     if width > 4 || width > made {
-        return Step::Stuck;
+        return None;
     }
     if width == 0 {
         plain(data, read + 2, room, made, count);
-        Step::Made(Place {
+        Some(Place {
             read: read + 2 + count,
             made: made + count,
         })
     } else {
         stepped(data, read + 2, room, made, count, width);
-        Step::Made(Place {
+        Some(Place {
             read: read + 2 + width,
             made: made + count,
         })
@@ -101,18 +88,12 @@ fn run(data: &[u8], room: &mut [u8], place: Place) -> Step {
 }
 
 // Expands `count` runs from word `at` of the data on.
-fn expand(data: &[u8], at: usize, count: u32, room: &mut [u8]) -> Step {
+fn expand(data: &[u8], at: usize, count: u32, room: &mut [u8]) -> Option<Place> {
     let mut place = Place { read: at, made: 0 };
-    let mut left = count;
-    while left > 0 {
-        let step = run(data, room, place);
-        let Step::Made(next) = step else {
-            return Step::Stuck;
-        };
-        place = next;
-        left -= 1;
+    for _ in 0..count {
+        place = run(data, room, place)?;
     }
-    Step::Made(place)
+    Some(place)
 }
 
 // Where the name's bytes stand in the data, the deck's length, and the word after it all.
@@ -124,34 +105,25 @@ pub struct Case {
     pub next: usize,
 }
 
-#[derive(Clone, Copy)]
-pub enum Read {
-    Found(Case),
-    Malformed,
-}
-
-// The deck at word `at` of the data, made at the start of `room`.
-pub fn deck_at(data: &[u8], at: usize, room: &mut [u8]) -> Read {
+// The deck at word `at` of the data, made at the start of `room`; none if it is malformed.
+pub fn deck_at(data: &[u8], at: usize, room: &mut [u8]) -> Option<Case> {
     let name_length = word_or_0(data, at) as usize;
     if at > MOST || name_length > 40 {
-        return Read::Malformed;
+        return None;
     }
     let length = word_or_0(data, at + 1) as usize;
     let count = word_or_0(data, at + 2);
     let runs = at + 3 + (name_length + 3) / 4;
-    let step = expand(data, runs, count, room);
-    let Step::Made(place) = step else {
-        return Read::Malformed;
-    };
+    let place = expand(data, runs, count, room)?;
     let read = place.read;
     let made = place.made;
     if read > data.len() / 4 || (length + 3) / 4 > made || length > room.len() {
-        return Read::Malformed;
+        return None;
     }
-    Read::Found(Case {
+    Some(Case {
         name: (at + 3) * 4,
         name_end: (at + 3) * 4 + name_length,
-        length: length,
+        length,
         next: read,
     })
 }

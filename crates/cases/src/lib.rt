@@ -3,6 +3,8 @@
 #![tactic(auto)]
 
 pub mod decks;
+pub mod each;
 pub mod input;
 pub mod numbers;
+pub mod room;
 pub mod words;

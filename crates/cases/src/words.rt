@@ -4,27 +4,11 @@ ghost use Rattle.std.specs.Prelude.{◌+◌, ◌<◌, ◌≤◌, length};
 // The largest place.
 pub const MOST: usize = 1000000;
 
-fn wide(byte: u8) -> u32
-    ensures { result < 256 }
-{
-    byte as u32
-}
-
-pub fn byte_at(bytes: &[u8], at: usize) -> u32
-    requires { at < length bytes.now }
-    ensures { result < 256 }
-{
-    wide(bytes[at])
-}
-
 // The word whose lowest byte is byte `at`.
-pub fn four(bytes: &[u8], at: usize) -> u32
+fn four(bytes: &[u8], at: usize) -> u32
     requires { at + 3 < length bytes.now }
 {
-    byte_at(bytes, at)
-        + 256 * byte_at(bytes, at + 1)
-        + 65536 * byte_at(bytes, at + 2)
-        + 16777216 * byte_at(bytes, at + 3)
+    u32::from_le_bytes([bytes[at], bytes[at + 1], bytes[at + 2], bytes[at + 3]])
 }
 
 // Word `at` of `data`, or 0 past its end.
@@ -49,17 +33,11 @@ pub fn after(at: usize, count: usize) -> usize
     at + count
 }
 
-fn low_byte(word: u32) -> u8 {
-    (word % 256) as u8
-}
-
 // Writes word `at` of `room`, or nothing past its end.
 pub fn put_word(room: &mut [u8], at: usize, word: u32) {
     if at < room.len() / 4 {
-        room[at * 4] = low_byte(word);
-        room[at * 4 + 1] = low_byte(word / 256);
-        room[at * 4 + 2] = low_byte(word / 65536);
-        room[at * 4 + 3] = low_byte(word / 16777216);
+        let bytes = word.to_le_bytes();
+        room[at * 4..at * 4 + 4].copy_from_slice(&bytes);
     }
 }
 

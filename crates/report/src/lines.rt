@@ -11,12 +11,9 @@ pub fn put(buf: &mut [u8], at: usize, bytes: &[u8]) -> usize
     requires { at + length bytes.now ≤ length buf.old }
     ensures { Wrote buf.old at bytes.now buf.new result }
 {
-    let mut i = 0;
-    while i < bytes.len() {
-        buf[at + i] = bytes[i];
-        i += 1;
-    }
-    at + i
+    let end = at + bytes.len();
+    buf[at..end].copy_from_slice(bytes);
+    end
 }
 
 // A number has at most ten digits.

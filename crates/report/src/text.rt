@@ -75,10 +75,8 @@ fn put_axioms(buf: &mut [u8], at: usize, verdicts: &[u32], axioms: u32) -> usize
     ensures { Wrote buf.old at (axiom_lines verdicts.now axioms) buf.new result }
 {
     let mut next = at;
-    let mut k = 0;
-    while k < axioms {
+    for k in 0..axioms {
         next = put_axiom(buf, next, verdicts, k);
-        k += 1;
     }
     next
 }

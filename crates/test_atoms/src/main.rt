@@ -10,8 +10,9 @@ ghost use Rattle.std.specs.Prelude.{◌≡◌, length};
 ghost use Rattle.deck.specs.Content.{IsAccepted};
 
 use atoms::floor::is_universal_antecedent;
-use cases::decks::Read;
+use cases::each::each_case;
 use cases::input::read_full;
+use cases::room;
 use cases::words::part;
 use deck::concepts::concept_count;
 use deck::numbers::ConceptId;
@@ -30,11 +31,8 @@ fn print_letters(rt: &impl Print, deck: &[u8]) -> io::Result<()>
     requires { IsAccepted deck.now }
 {
     rt.write_all(b" ")?;
-    let count = concept_count(deck);
-    let mut concept = 0;
-    while concept < count {
+    for concept in 0..concept_count(deck) {
         print_letter(rt, is_universal_antecedent(deck, ConceptId(concept)))?;
-        concept += 1;
     }
     Ok(())
 }
@@ -49,8 +47,7 @@ fn print_answer(rt: &impl Print, deck: &[u8]) -> io::Result<()> {
 
 // Asks about the deck at word `at` of the data. Answers the word after it, or 0 if it is malformed.
 fn ask_one(rt: &impl Print, data: &[u8], at: usize, room: &mut [u8]) -> io::Result<usize> {
-    let read = cases::decks::deck_at(data, at, room);
-    let Read::Found(case) = read else {
+    let Some(case) = cases::decks::deck_at(data, at, room) else {
         return Ok(0);
     };
     rt.write_all(part(data, case.name, case.name_end))?;
@@ -59,39 +56,11 @@ fn ask_one(rt: &impl Print, data: &[u8], at: usize, room: &mut [u8]) -> io::Resu
     Ok(case.next)
 }
 
-// Asks about all decks of the data, and answers how many there are.
-fn ask_all(rt: &impl Print, data: &[u8], room: &mut [u8]) -> io::Result<u64> {
-    let mut decks = 0;
-    let mut at = 0;
-    while at < data.len() / 4 {
-        let next = ask_one(rt, data, at, room)?;
-        if next <= at {
-            return Ok(decks);
-        }
-        at = next;
-        decks += 1;
-    }
-    Ok(decks)
-}
-
-// Room for the whole input.
-fn data_room() -> [u8; 400000]
-    ensures { 400000 ≡ length result }
-{
-    [0; 400000]
-}
-
-// Room for the largest deck.
-fn deck_room() -> [u8; 300000]
-    ensures { 300000 ≡ length result }
-{
-    [0; 300000]
-}
-
 fn main(rt: HostRuntime) -> io::Result<()> {
-    let mut data = data_room();
+    let mut data = room::bytes::<400000>();
     let n = read_full(&mut rt.stdin(), &mut data)?;
-    let mut room = deck_room();
-    let decks = ask_all(&rt, &data[..n], &mut room)?;
+    let data = &data[..n];
+    let mut deck = room::bytes::<300000>();
+    let decks = each_case(n / 4, |at| ask_one(&rt, data, at, &mut deck))?;
     println!(rt; "{decks} decks")
 }

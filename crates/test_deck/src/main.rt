@@ -8,8 +8,9 @@
 
 ghost use Rattle.std.specs.Prelude.{◌≡◌, length};
 
-use cases::decks::Read;
+use cases::each::each_case;
 use cases::input::read_full;
+use cases::room;
 use cases::words::part;
 use deck::refusal::Refusal;
 use std::io;
@@ -23,8 +24,7 @@ fn print_answer(rt: &impl Print, answer: Result<(), Refusal>) -> io::Result<()> 
 
 // Checks the deck at word `at` of the data. Answers the word after it, or 0 if it is malformed.
 fn check_one(rt: &impl Print, data: &[u8], at: usize, room: &mut [u8]) -> io::Result<usize> {
-    let read = cases::decks::deck_at(data, at, room);
-    let Read::Found(case) = read else {
+    let Some(case) = cases::decks::deck_at(data, at, room) else {
         return Ok(0);
     };
     let answer = deck::check_deck(part(room, 0, case.length));
@@ -34,39 +34,11 @@ fn check_one(rt: &impl Print, data: &[u8], at: usize, room: &mut [u8]) -> io::Re
     Ok(case.next)
 }
 
-// Checks all decks of the data, and answers how many there are.
-fn check_all(rt: &impl Print, data: &[u8], room: &mut [u8]) -> io::Result<u64> {
-    let mut decks = 0;
-    let mut at = 0;
-    while at < data.len() / 4 {
-        let next = check_one(rt, data, at, room)?;
-        if next <= at {
-            return Ok(decks);
-        }
-        at = next;
-        decks += 1;
-    }
-    Ok(decks)
-}
-
-// Room for the whole input.
-fn data_room() -> [u8; 600000]
-    ensures { 600000 ≡ length result }
-{
-    [0; 600000]
-}
-
-// Room for the largest deck.
-fn deck_room() -> [u8; 2000000]
-    ensures { 2000000 ≡ length result }
-{
-    [0; 2000000]
-}
-
 fn main(rt: HostRuntime) -> io::Result<()> {
-    let mut data = data_room();
+    let mut data = room::bytes::<600000>();
     let n = read_full(&mut rt.stdin(), &mut data)?;
-    let mut room = deck_room();
-    let decks = check_all(&rt, &data[..n], &mut room)?;
+    let data = &data[..n];
+    let mut deck = room::bytes::<2000000>();
+    let decks = each_case(n / 4, |at| check_one(&rt, data, at, &mut deck))?;
     println!(rt; "{decks} decks")
 }

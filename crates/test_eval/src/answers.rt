@@ -5,6 +5,7 @@
 use cases::numbers::number_at;
 use deck::numbers::{ConceptId, Element};
 use deck::refusal::Refusal;
+use eval::entry::{check_axiom_in, eval_concept_in};
 use eval::judgement::Judgement;
 use eval::verdict::Verdict;
 use std::io;
@@ -25,6 +26,41 @@ fn span_at(data: &[u8], at: usize) -> Span {
         first: first.value,
         count: count.value,
         next: count.next,
+    }
+}
+
+// A deck, and the structure that is lent with it.
+#[derive(Clone, Copy)]
+pub struct Lent<'a> {
+    pub deck: &'a [u8],
+    pub labels: &'a [u64],
+    pub elements: u32,
+    pub edges: &'a [[u32; 3]],
+    pub edge_count: u32,
+}
+
+impl Lent<'_> {
+    fn judge(&self, concept: u32, element: u32) -> Result<Judgement, Refusal> {
+        eval_concept_in(
+            self.deck,
+            self.labels,
+            self.elements,
+            self.edges,
+            self.edge_count,
+            ConceptId(concept),
+            Element(element),
+        )
+    }
+
+    fn check(&self, axiom: u32) -> Result<Verdict, Refusal> {
+        check_axiom_in(
+            self.deck,
+            self.labels,
+            self.elements,
+            self.edges,
+            self.edge_count,
+            axiom,
+        )
     }
 }
 
@@ -84,101 +120,41 @@ fn print_axiom(rt: &impl Print, answer: Result<Verdict, Refusal>) -> io::Result<
 }
 
 // Asks one concept at each element of the span.
-fn concept_row(
-    rt: &impl Print,
-    deck: &[u8],
-    labels: &[u64],
-    elements: u32,
-    edges: &[[u32; 3]],
-    edge_count: u32,
-    concept: u32,
-    asked: Span,
-) -> io::Result<()> {
-    let mut element = asked.first;
-    let mut left = asked.count;
-    while left > 0 {
-        let answer = eval::entry::eval_concept_in(
-            deck,
-            labels,
-            elements,
-            edges,
-            edge_count,
-            ConceptId(concept),
-            Element(element),
-        );
-        print_concept(rt, answer)?;
-        element = std::num::wrapping_add_u32(element, 1);
-        left -= 1;
+fn concept_row(rt: &impl Print, lent: &Lent, concept: u32, asked: Span) -> io::Result<()> {
+    for i in 0..asked.count {
+        print_concept(rt, lent.judge(concept, asked.first.wrapping_add(i)))?;
     }
     Ok(())
 }
 
 // Asks each concept of the span at each element of the other.
-fn concept_rows(
-    rt: &impl Print,
-    deck: &[u8],
-    labels: &[u64],
-    elements: u32,
-    edges: &[[u32; 3]],
-    edge_count: u32,
-    concepts: Span,
-    asked: Span,
-) -> io::Result<()> {
-    let mut concept = concepts.first;
-    let mut left = concepts.count;
-    while left > 0 {
+fn concept_rows(rt: &impl Print, lent: &Lent, concepts: Span, asked: Span) -> io::Result<()> {
+    for i in 0..concepts.count {
         print_byte(rt, b' ')?;
-        concept_row(
-            rt, deck, labels, elements, edges, edge_count, concept, asked,
-        )?;
-        concept = std::num::wrapping_add_u32(concept, 1);
-        left -= 1;
+        concept_row(rt, lent, concepts.first.wrapping_add(i), asked)?;
     }
     print_byte(rt, b'\n')
 }
 
 // Asks each axiom of the span.
-fn axiom_rows(
-    rt: &impl Print,
-    deck: &[u8],
-    labels: &[u64],
-    elements: u32,
-    edges: &[[u32; 3]],
-    edge_count: u32,
-    axioms: Span,
-) -> io::Result<()> {
-    let mut axiom = axioms.first;
-    let mut left = axioms.count;
-    while left > 0 {
+fn axiom_rows(rt: &impl Print, lent: &Lent, axioms: Span) -> io::Result<()> {
+    for i in 0..axioms.count {
+        let axiom = axioms.first.wrapping_add(i);
         print_number(rt, axiom)?;
         rt.write_all(b": ")?;
-        let answer = eval::entry::check_axiom_in(deck, labels, elements, edges, edge_count, axiom);
-        print_axiom(rt, answer)?;
+        print_axiom(rt, lent.check(axiom))?;
         print_byte(rt, b'\n')?;
-        axiom = std::num::wrapping_add_u32(axiom, 1);
-        left -= 1;
     }
     Ok(())
 }
 
 // Asks what stands at place `at` of the data: first concept and count, first element and count,
 // first axiom and count. Answers the place after it.
-pub fn answer(
-    rt: &impl Print,
-    data: &[u8],
-    at: usize,
-    deck: &[u8],
-    labels: &[u64],
-    elements: u32,
-    edges: &[[u32; 3]],
-    edge_count: u32,
-) -> io::Result<usize> {
+pub fn answer(rt: &impl Print, data: &[u8], at: usize, lent: &Lent) -> io::Result<usize> {
     let concepts = span_at(data, at);
     let asked = span_at(data, concepts.next);
     let axioms = span_at(data, asked.next);
-    concept_rows(
-        rt, deck, labels, elements, edges, edge_count, concepts, asked,
-    )?;
-    axiom_rows(rt, deck, labels, elements, edges, edge_count, axioms)?;
+    concept_rows(rt, lent, concepts, asked)?;
+    axiom_rows(rt, lent, axioms)?;
     Ok(axioms.next)
 }

@@ -17,12 +17,10 @@ pub struct Case {
 // Expands the words of the deck. Answers the place after them.
 fn deck_words(data: &[u8], at: usize, deck: &mut [u8], count: usize) -> usize {
     let mut next = at;
-    let mut i = 0;
-    while i < count {
+    for i in 0..count {
         let word = number_at(data, next);
         put_word(deck, i, word.value);
         next = word.next;
-        i += 1;
     }
     next
 }
@@ -36,17 +34,15 @@ fn put_label(labels: &mut [u64], at: usize, word: u64) {
 // Writes `count` equal label words from word `from` on. Answers the word after them.
 fn put_labels(labels: &mut [u64], from: usize, count: u32, word: u64) -> usize {
     let mut at = from;
-    let mut left = count;
-    while left > 0 {
+    for _ in 0..count {
         put_label(labels, at, word);
-        at = std::num::wrapping_add_usize(at, 1);
-        left -= 1;
+        at = at.wrapping_add(1);
     }
     at
 }
 
 fn joined(low: u32, high: u32) -> u64 {
-    low as u64 + 4294967296 * (high as u64)
+    u64::from(low) + 4294967296 * u64::from(high)
 }
 
 // Expands the runs of label words: a count, and the low and the high half of the word. Answers the
@@ -54,14 +50,12 @@ fn joined(low: u32, high: u32) -> u64 {
 fn label_runs(data: &[u8], at: usize, labels: &mut [u64], runs: u32) -> usize {
     let mut next = at;
     let mut made = 0;
-    let mut left = runs;
-    while left > 0 {
+    for _ in 0..runs {
         let count = number_at(data, next);
         let low = number_at(data, count.next);
         let high = number_at(data, low.next);
         made = put_labels(labels, made, count.value, joined(low.value, high.value));
         next = high.next;
-        left -= 1;
     }
     next
 }
@@ -75,14 +69,12 @@ fn put_edge(edges: &mut [[u32; 3]], at: usize, edge: [u32; 3]) {
 // Expands the edges: role, from, to. Answers the place after them.
 fn edge_records(data: &[u8], at: usize, edges: &mut [[u32; 3]], count: usize) -> usize {
     let mut next = at;
-    let mut i = 0;
-    while i < count {
+    for i in 0..count {
         let role = number_at(data, next);
         let from = number_at(data, role.next);
         let to = number_at(data, from.next);
         put_edge(edges, i, [role.value, from.value, to.value]);
         next = to.next;
-        i += 1;
     }
     next
 }

@@ -13,23 +13,14 @@ mod lent;
 
 ghost use Rattle.std.specs.Prelude.{◌≡◌, ◌≤◌, length};
 
+use answers::Lent;
+use cases::each::each_case;
 use cases::input::read_full;
 use cases::numbers::number_at;
+use cases::room;
 use cases::words::part;
 use lent::Case;
 use std::io;
-
-fn first_labels(labels: &[u64], count: usize) -> &[u64]
-    requires { count ≤ length labels.now }
-{
-    &labels[0..count]
-}
-
-fn first_edges(edges: &[[u32; 3]], count: usize) -> &[[u32; 3]]
-    requires { count ≤ length edges.now }
-{
-    &edges[0..count]
-}
 
 // Asks what the data say of an expanded case. Answers the place after it, or 0 if there is too
 // little room for the case.
@@ -50,16 +41,14 @@ fn ask(
     if case.edges > edges.len() {
         return Ok(0);
     }
-    answers::answer(
-        rt,
-        data,
-        case.next,
-        part(deck, 0, case.deck),
-        first_labels(labels, case.labels),
-        case.elements,
-        first_edges(edges, case.edges),
-        case.edge_count,
-    )
+    let lent = Lent {
+        deck: part(deck, 0, case.deck),
+        labels: &labels[..case.labels],
+        elements: case.elements,
+        edges: &edges[..case.edges],
+        edge_count: case.edge_count,
+    };
+    answers::answer(rt, data, case.next, &lent)
 }
 
 // Prints the name at place `at` of the data. Answers the place after it, or 0 if it is malformed.
@@ -91,61 +80,16 @@ fn run_one(
     ask(rt, data, case, deck, labels, edges)
 }
 
-// Runs all cases of the data, and answers how many there are.
-fn run_all(
-    rt: &impl Print,
-    data: &[u8],
-    deck: &mut [u8],
-    labels: &mut [u64],
-    edges: &mut [[u32; 3]],
-) -> io::Result<u64> {
-    let mut cases = 0;
-    let mut at = 0;
-    while at < data.len() {
-        let next = run_one(rt, data, at, deck, labels, edges)?;
-        if next <= at {
-            return Ok(cases);
-        }
-        at = next;
-        cases += 1;
-    }
-    Ok(cases)
-}
-
-// Room for the whole input.
-fn data_room() -> [u8; 200000]
-    ensures { 200000 ≡ length result }
-{
-    [0; 200000]
-}
-
-// Room for the largest deck.
-fn deck_room() -> [u8; 16384]
-    ensures { 16384 ≡ length result }
-{
-    [0; 16384]
-}
-
-// Room for a word of labels for one element more than there may be.
-fn label_room() -> [u64; 65537]
-    ensures { 65537 ≡ length result }
-{
-    [0; 65537]
-}
-
-fn edge_room() -> [[u32; 3]; 64]
-    ensures { 64 ≡ length result }
-{
-    let none = [0, 0, 0];
-    [none; 64]
-}
-
 fn main(rt: HostRuntime) -> io::Result<()> {
-    let mut data = data_room();
+    let mut data = room::bytes::<200000>();
     let n = read_full(&mut rt.stdin(), &mut data)?;
-    let mut deck = deck_room();
-    let mut labels = label_room();
-    let mut edges = edge_room();
-    let cases = run_all(&rt, &data[..n], &mut deck, &mut labels, &mut edges)?;
+    let data = &data[..n];
+    let mut deck = room::bytes::<16384>();
+    // A word of labels for one element more than there may be.
+    let mut labels = room::labels::<65537>();
+    let mut edges = room::edges::<64>();
+    let cases = each_case(n, |at| {
+        run_one(&rt, data, at, &mut deck, &mut labels, &mut edges)
+    })?;
     println!(rt; "{cases} cases")
 }

@@ -14,10 +14,6 @@ pub struct Compared {
     pub differences: u64,
 }
 
-pub fn one_more(n: u64) -> u64 {
-    std::num::wrapping_add_u64(n, 1)
-}
-
 fn print_difference(rt: &impl Print, at: usize, wanted: u32, found: u32) -> io::Result<()> {
     println!(rt; "word {at}: expected {wanted}, found {found}")
 }
@@ -27,17 +23,17 @@ pub fn differing(c: Compared, at: usize) -> Compared {
     Compared {
         at: at,
         words: c.words,
-        differences: one_more(c.differences),
+        differences: c.differences.wrapping_add(1),
     }
 }
 
 pub fn expect(rt: &impl Print, data: &[u8], c: Compared, found: u32) -> io::Result<Compared> {
     let wanted = word_or_0(data, c.at);
-    let words = one_more(c.words);
+    let words = c.words.wrapping_add(1);
     let mut differences = c.differences;
     if wanted != found {
         print_difference(rt, c.at, wanted, found)?;
-        differences = one_more(differences);
+        differences = differences.wrapping_add(1);
     }
     Ok(Compared {
         at: after(c.at, 1),
@@ -54,6 +50,21 @@ fn expect_label(rt: &impl Print, data: &[u8], c: Compared, label: u64) -> io::Re
 
 // The first `count` of a buffer, or all there are.
 
+fn expect_first<T: Copy, F: Fn(Compared, T) -> io::Result<Compared>>(
+    c: Compared,
+    items: &[T],
+    count: u32,
+    expect_item: F,
+) -> io::Result<Compared>
+    requires { F.IsAlwaysCallable expect_item }
+{
+    let mut seen = c;
+    for i in 0..items.len().min(count as usize) {
+        seen = expect_item(seen, items[i])?;
+    }
+    Ok(seen)
+}
+
 pub fn expect_labels(
     rt: &impl Print,
     data: &[u8],
@@ -61,16 +72,9 @@ pub fn expect_labels(
     labels: &[u64],
     count: u32,
 ) -> io::Result<Compared> {
-    let mut seen = c;
-    let mut i = 0;
-    while i < count as usize {
-        if i >= labels.len() {
-            return Ok(seen);
-        }
-        seen = expect_label(rt, data, seen, labels[i])?;
-        i += 1;
-    }
-    Ok(seen)
+    expect_first(c, labels, count, |seen, label| {
+        expect_label(rt, data, seen, label)
+    })
 }
 
 fn expect_edge(rt: &impl Print, data: &[u8], c: Compared, edge: [u32; 3]) -> io::Result<Compared> {
@@ -86,16 +90,9 @@ pub fn expect_edges(
     edges: &[[u32; 3]],
     count: u32,
 ) -> io::Result<Compared> {
-    let mut seen = c;
-    let mut i = 0;
-    while i < count as usize {
-        if i >= edges.len() {
-            return Ok(seen);
-        }
-        seen = expect_edge(rt, data, seen, edges[i])?;
-        i += 1;
-    }
-    Ok(seen)
+    expect_first(c, edges, count, |seen, edge| {
+        expect_edge(rt, data, seen, edge)
+    })
 }
 
 pub fn expect_words(
@@ -105,16 +102,7 @@ pub fn expect_words(
     words: &[u32],
     count: u32,
 ) -> io::Result<Compared> {
-    let mut seen = c;
-    let mut i = 0;
-    while i < count as usize {
-        if i >= words.len() {
-            return Ok(seen);
-        }
-        seen = expect(rt, data, seen, words[i])?;
-        i += 1;
-    }
-    Ok(seen)
+    expect_first(c, words, count, |seen, word| expect(rt, data, seen, word))
 }
 
 // 0 false, 1 true, 2 + tag unresolved; a refusal is above these.
@@ -141,8 +129,7 @@ fn expect_concept(
     concept: u32,
 ) -> io::Result<Compared> {
     let mut seen = c;
-    let mut element = 0;
-    while element < elements {
+    for element in 0..elements {
         let answer = eval_concept_in(
             deck,
             labels,
@@ -153,7 +140,6 @@ fn expect_concept(
             Element(element),
         );
         seen = expect(rt, data, seen, judgement_word(answer))?;
-        element += 1;
     }
     Ok(seen)
 }
@@ -171,12 +157,10 @@ pub fn expect_concepts(
     concepts: u32,
 ) -> io::Result<Compared> {
     let mut seen = c;
-    let mut concept = 0;
-    while concept < concepts {
+    for concept in 0..concepts {
         seen = expect_concept(
             rt, data, seen, deck, labels, edges, elements, edge_count, concept,
         )?;
-        concept += 1;
     }
     Ok(seen)
 }

@@ -13,6 +13,7 @@ ghost use Rattle.std.specs.Prelude.{◌≡◌, length};
 
 use build::tally::Tally;
 use cases::input::read_full;
+use cases::room;
 use cases::words::{MOST, after, part};
 use compared::{Compared, differing, expect};
 use data::{ASKED, Asked};
@@ -150,7 +151,7 @@ fn replay_all(
     log: &mut [u32],
     verdicts: &mut [u32],
 ) -> io::Result<()> {
-    let mut cases = 0;
+    let mut cases: u64 = 0;
     let mut c = Compared {
         at: 0,
         words: 0,
@@ -164,46 +165,20 @@ fn replay_all(
             return rt.write_all(b"malformed\n");
         }
         at = next;
-        cases = compared::one_more(cases);
+        cases = cases.wrapping_add(1);
     }
     print_count(rt, b"cases ", cases)?;
     print_count(rt, b"words compared ", c.words)?;
     print_count(rt, b"differences ", c.differences)
 }
 
-fn data_room() -> [u8; 400000]
-    ensures { 400000 ≡ length result }
-{
-    [0; 400000]
-}
-
-fn label_room() -> [u64; 600]
-    ensures { 600 ≡ length result }
-{
-    [0; 600]
-}
-
-fn edge_room() -> [[u32; 3]; 130]
-    ensures { 130 ≡ length result }
-{
-    let none = [0, 0, 0];
-    [none; 130]
-}
-
-// Room for the log, and for the verdicts.
-fn word_room() -> [u32; 300]
-    ensures { 300 ≡ length result }
-{
-    [0; 300]
-}
-
 fn main(rt: HostRuntime) -> io::Result<()> {
-    let mut data = data_room();
+    let mut data = room::bytes::<400000>();
     let n = read_full(&mut rt.stdin(), &mut data)?;
-    let mut labels = label_room();
-    let mut edges = edge_room();
-    let mut log = word_room();
-    let mut verdicts = word_room();
+    let mut labels = room::labels::<600>();
+    let mut edges = room::edges::<130>();
+    let mut log = room::words::<300>();
+    let mut verdicts = room::words::<300>();
     replay_all(
         &rt,
         &data[..n],

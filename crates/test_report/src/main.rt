@@ -11,8 +11,9 @@
 
 ghost use Rattle.std.specs.Prelude.{◌≡◌, length};
 
-use cases::decks::Read;
+use cases::each::each_case;
 use cases::input::read_full;
+use cases::room;
 use cases::words::part;
 use std::io;
 
@@ -22,42 +23,25 @@ fn mark(at: usize) -> u8 {
 }
 
 fn mark_all(room: &mut [u8]) {
-    let mut i = 0;
-    while i < room.len() {
+    for i in 0..room.len() {
         room[i] = mark(i);
-        i += 1;
     }
-}
-
-fn one_if(fault: bool) -> u64 {
-    if fault { 1 } else { 0 }
-}
-
-fn add(one: u64, other: u64) -> u64 {
-    std::num::wrapping_add_u64(one, other)
 }
 
 // How many bytes from place `from` on are not as they were marked.
 fn strays(room: &[u8], from: usize) -> u64 {
-    let mut found = 0;
-    let mut i = from;
-    while i < room.len() {
-        found = add(found, one_if(room[i] != mark(i)));
-        i += 1;
+    let mut found: u64 = 0;
+    for i in from..room.len() {
+        found = found.wrapping_add(u64::from(room[i] != mark(i)));
     }
     found
 }
 
 // How many of the first bytes differ, as far as both go.
 fn differences(one: &[u8], other: &[u8]) -> u64 {
-    let mut found = 0;
-    let mut i = 0;
-    while i < one.len() {
-        if i >= other.len() {
-            return found;
-        }
-        found = add(found, one_if(one[i] != other[i]));
-        i += 1;
+    let mut found: u64 = 0;
+    for (a, b) in one.iter().zip(other) {
+        found = found.wrapping_add(u64::from(a != b));
     }
     found
 }
@@ -74,7 +58,7 @@ fn ask(deck: &[u8], room: &mut [u8], length: usize) -> usize {
 // Asks in a buffer that is too short. Answers how much is wrong.
 fn too_short(deck: &[u8], room: &mut [u8], length: usize) -> u64 {
     let n = ask(deck, room, length);
-    add(one_if(n != 0), strays(room, 0))
+    strays(room, 0).wrapping_add(u64::from(n != 0))
 }
 
 // Asks for a text of n bytes in one byte less.
@@ -88,10 +72,9 @@ fn one_short(deck: &[u8], room: &mut [u8], n: usize) -> u64 {
 // Asks for a text again, in a buffer of its length. Answers how much is wrong.
 fn again_in(deck: &[u8], room: &mut [u8], text: &[u8]) -> u64 {
     let n = ask(deck, room, text.len());
-    add(
-        one_if(n != text.len()),
-        add(differences(text, room), strays(room, text.len())),
-    )
+    differences(text, room)
+        .wrapping_add(strays(room, text.len()))
+        .wrapping_add(u64::from(n != text.len()))
 }
 
 fn print_faults(rt: &impl Print, faults: u64) -> io::Result<()> {
@@ -112,7 +95,11 @@ fn print_text(rt: &impl Print, deck: &[u8], wide: &mut [u8], tight: &mut [u8]) -
     let again = again_in(deck, tight, text);
     let empty = too_short(deck, tight, 0);
     let short = one_short(deck, tight, n);
-    print_faults(rt, add(add(past, again), add(empty, short)))
+    let faults = past
+        .wrapping_add(again)
+        .wrapping_add(empty)
+        .wrapping_add(short);
+    print_faults(rt, faults)
 }
 
 // Prints the name and the text of the deck at word `at` of the data. Answers the word after it, or 0 if
@@ -125,8 +112,7 @@ fn report_one(
     wide: &mut [u8],
     tight: &mut [u8],
 ) -> io::Result<usize> {
-    let read = cases::decks::deck_at(data, at, room);
-    let Read::Found(case) = read else {
+    let Some(case) = cases::decks::deck_at(data, at, room) else {
         return Ok(0);
     };
     rt.write_all(part(data, case.name, case.name_end))?;
@@ -135,54 +121,16 @@ fn report_one(
     Ok(case.next)
 }
 
-// Goes through all decks of the data, and answers how many there are.
-fn report_all(
-    rt: &impl Print,
-    data: &[u8],
-    room: &mut [u8],
-    wide: &mut [u8],
-    tight: &mut [u8],
-) -> io::Result<u64> {
-    let mut cases = 0;
-    let mut at = 0;
-    while at < data.len() / 4 {
-        let next = report_one(rt, data, at, room, wide, tight)?;
-        if next <= at {
-            return Ok(cases);
-        }
-        at = next;
-        cases += 1;
-    }
-    Ok(cases)
-}
-
-// Room for the whole input.
-fn data_room() -> [u8; 100000]
-    ensures { 100000 ≡ length result }
-{
-    [0; 100000]
-}
-
-// Room for a deck of a word more than the program takes.
-fn deck_room() -> [u8; 65540]
-    ensures { 65540 ≡ length result }
-{
-    [0; 65540]
-}
-
-// Room for the longest text.
-fn text_room() -> [u8; 131072]
-    ensures { 131072 ≡ length result }
-{
-    [0; 131072]
-}
-
 fn main(rt: HostRuntime) -> io::Result<()> {
-    let mut data = data_room();
+    let mut data = room::bytes::<100000>();
     let n = read_full(&mut rt.stdin(), &mut data)?;
-    let mut room = deck_room();
-    let mut wide = text_room();
-    let mut tight = text_room();
-    let cases = report_all(&rt, &data[..n], &mut room, &mut wide, &mut tight)?;
+    let data = &data[..n];
+    // A deck of a word more than the program takes, and the longest text.
+    let mut deck = room::bytes::<65540>();
+    let mut wide = room::bytes::<131072>();
+    let mut tight = room::bytes::<131072>();
+    let cases = each_case(n / 4, |at| {
+        report_one(&rt, data, at, &mut deck, &mut wide, &mut tight)
+    })?;
     println!(rt; "{cases} cases")
 }

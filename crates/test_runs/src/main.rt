@@ -17,7 +17,9 @@ ghost use Rattle.std.specs.Prelude.{◌≡◌, length};
 
 use asked::Asked;
 use build::tally::Tally;
+use cases::each::each_case;
 use cases::input::read_full;
+use cases::room;
 use cases::words::{MOST, part, word_or_0};
 use deck::refusal::Refusal;
 use model::outcome::Outcome;
@@ -62,10 +64,6 @@ fn print_stray(rt: &impl Print, stray: u64) -> io::Result<()> {
     }
 }
 
-fn add(one: u64, other: u64) -> u64 {
-    std::num::wrapping_add_u64(one, other)
-}
-
 fn mark_all(labels: &mut [u64], edges: &mut [[u32; 3]], log: &mut [u32], verdicts: &mut [u32]) {
     marks::mark_labels(labels);
     marks::mark_edges(edges);
@@ -84,7 +82,11 @@ fn show_all(
     let in_edges = marks::show_edges(rt, edges)?;
     let in_log = marks::show_words(rt, b"log", log)?;
     let in_verdicts = marks::show_words(rt, b"verdicts", verdicts)?;
-    print_stray(rt, add(add(in_labels, in_edges), add(in_log, in_verdicts)))
+    let stray = in_labels
+        .wrapping_add(in_edges)
+        .wrapping_add(in_log)
+        .wrapping_add(in_verdicts);
+    print_stray(rt, stray)
 }
 
 // Runs a case over buffers of exactly the lengths that it asks for, and prints what comes of it.
@@ -183,70 +185,25 @@ fn run_one(
     Ok((deck_end + 3) / 4)
 }
 
-// Runs all cases of the data, and answers how many there are.
-fn run_all(
-    rt: &impl Print,
-    data: &[u8],
-    labels: &mut [u64],
-    edges: &mut [[u32; 3]],
-    log: &mut [u32],
-    verdicts: &mut [u32],
-) -> io::Result<u64> {
-    let mut cases = 0;
-    let mut at = 0;
-    while at < data.len() / 4 {
-        let next = run_one(rt, data, at, labels, edges, log, verdicts)?;
-        if next <= at {
-            return Ok(cases);
-        }
-        at = next;
-        cases += 1;
-    }
-    Ok(cases)
-}
-
-// Room for the whole input.
-fn data_room() -> [u8; 300000]
-    ensures { 300000 ≡ length result }
-{
-    [0; 300000]
-}
-
-// Room for a word of labels for one element more than a bound allows.
-fn label_room() -> [u64; 65600]
-    ensures { 65600 ≡ length result }
-{
-    [0; 65600]
-}
-
-fn edge_room() -> [[u32; 3]; 400]
-    ensures { 400 ≡ length result }
-{
-    let none = [0, 0, 0];
-    [none; 400]
-}
-
-// Room for the log, and for the verdicts.
-fn word_room() -> [u32; 2000]
-    ensures { 2000 ≡ length result }
-{
-    [0; 2000]
-}
-
 fn main(rt: HostRuntime) -> io::Result<()> {
-    let mut data = data_room();
+    let mut data = room::bytes::<300000>();
     let n = read_full(&mut rt.stdin(), &mut data)?;
-    let mut labels = label_room();
-    let mut edges = edge_room();
-    let mut log = word_room();
-    let mut verdicts = word_room();
-    let cases = run_all(
-        &rt,
-        &data[..n],
-        &mut labels,
-        &mut edges,
-        &mut log,
-        &mut verdicts,
-    )?;
+    let data = &data[..n];
+    // A word of labels for one element more than a bound allows.
+    let mut labels = room::labels::<65600>();
+    let mut edges = room::edges::<400>();
+    let mut log = room::words::<2000>();
+    let mut verdicts = room::words::<2000>();
+    let cases = each_case(n / 4, |at| {
+        run_one(
+            &rt,
+            data,
+            at,
+            &mut labels,
+            &mut edges,
+            &mut log,
+            &mut verdicts,
+        )
+    })?;
     println!(rt; "{cases} cases")
 }

@@ -20,28 +20,25 @@ fn edge_mark(at: usize) -> [u32; 3] {
     [first, first + 1000000, first + 2000000]
 }
 
-pub fn mark_labels(labels: &mut [u64]) {
-    let mut i = 0;
-    while i < labels.len() {
-        labels[i] = label_mark(i);
-        i += 1;
+// Marks each place of a buffer.
+fn mark_all<T: Drop, F: Fn(usize) -> T>(room: &mut [T], mark: F)
+    requires { F.IsAlwaysCallable mark }
+{
+    for i in 0..room.len() {
+        room[i] = mark(i);
     }
+}
+
+pub fn mark_labels(labels: &mut [u64]) {
+    mark_all(labels, label_mark);
 }
 
 pub fn mark_edges(edges: &mut [[u32; 3]]) {
-    let mut i = 0;
-    while i < edges.len() {
-        edges[i] = edge_mark(i);
-        i += 1;
-    }
+    mark_all(edges, edge_mark);
 }
 
 pub fn mark_words(words: &mut [u32]) {
-    let mut i = 0;
-    while i < words.len() {
-        words[i] = mark(i);
-        i += 1;
-    }
+    mark_all(words, mark);
 }
 
 // How far a buffer has been seen: whether every word so far was written, and how many were written
@@ -50,6 +47,15 @@ pub fn mark_words(words: &mut [u32]) {
 struct Seen {
     front: bool,
     stray: u64,
+}
+
+impl Seen {
+    fn new() -> Seen {
+        Seen {
+            front: true,
+            stray: 0,
+        }
+    }
 }
 
 // One more word, which was `before`. Words of the front are printed.
@@ -66,18 +72,14 @@ fn next(rt: &impl Print, seen: Seen, word: u64, before: u64) -> io::Result<Seen>
     }
     Ok(Seen {
         front: false,
-        stray: std::num::wrapping_add_u64(seen.stray, 1),
+        stray: seen.stray.wrapping_add(1),
     })
 }
 
-fn wide(word: u32) -> u64 {
-    word as u64
-}
-
 fn next_edge(rt: &impl Print, seen: Seen, edge: [u32; 3], before: [u32; 3]) -> io::Result<Seen> {
-    let one = next(rt, seen, wide(edge[0]), wide(before[0]))?;
-    let two = next(rt, one, wide(edge[1]), wide(before[1]))?;
-    next(rt, two, wide(edge[2]), wide(before[2]))
+    let one = next(rt, seen, u64::from(edge[0]), u64::from(before[0]))?;
+    let two = next(rt, one, u64::from(edge[1]), u64::from(before[1]))?;
+    next(rt, two, u64::from(edge[2]), u64::from(before[2]))
 }
 
 // A line is the buffer's name and its words up to the first that stands as it was marked. The
@@ -85,14 +87,9 @@ fn next_edge(rt: &impl Print, seen: Seen, edge: [u32; 3], before: [u32; 3]) -> i
 
 pub fn show_labels(rt: &impl Print, labels: &[u64]) -> io::Result<u64> {
     rt.write_all(b"labels")?;
-    let mut seen = Seen {
-        front: true,
-        stray: 0,
-    };
-    let mut i = 0;
-    while i < labels.len() {
+    let mut seen = Seen::new();
+    for i in 0..labels.len() {
         seen = next(rt, seen, labels[i], label_mark(i))?;
-        i += 1;
     }
     rt.write_all(b"\n")?;
     Ok(seen.stray)
@@ -100,14 +97,9 @@ pub fn show_labels(rt: &impl Print, labels: &[u64]) -> io::Result<u64> {
 
 pub fn show_edges(rt: &impl Print, edges: &[[u32; 3]]) -> io::Result<u64> {
     rt.write_all(b"edges")?;
-    let mut seen = Seen {
-        front: true,
-        stray: 0,
-    };
-    let mut i = 0;
-    while i < edges.len() {
+    let mut seen = Seen::new();
+    for i in 0..edges.len() {
         seen = next_edge(rt, seen, edges[i], edge_mark(i))?;
-        i += 1;
     }
     rt.write_all(b"\n")?;
     Ok(seen.stray)
@@ -115,14 +107,9 @@ pub fn show_edges(rt: &impl Print, edges: &[[u32; 3]]) -> io::Result<u64> {
 
 pub fn show_words(rt: &impl Print, name: &[u8], words: &[u32]) -> io::Result<u64> {
     rt.write_all(name)?;
-    let mut seen = Seen {
-        front: true,
-        stray: 0,
-    };
-    let mut i = 0;
-    while i < words.len() {
-        seen = next(rt, seen, wide(words[i]), wide(mark(i)))?;
-        i += 1;
+    let mut seen = Seen::new();
+    for i in 0..words.len() {
+        seen = next(rt, seen, u64::from(words[i]), u64::from(mark(i)))?;
     }
     rt.write_all(b"\n")?;
     Ok(seen.stray)

@@ -1,19 +1,14 @@
 // Standard input and standard output. A call that was interrupted, or that would have to wait, is made again.
-ghost use Rattle.std.specs.Prelude.{◌≡◌, ◌<◌, ◌≤◌, IfOk, length};
+ghost use Rattle.std.specs.Prelude.{◌≡◌, ◌<◌, ◌≤◌, IfOk, ⊤, length};
+ghost use Rattle.std.specs.ControlFlow.{MatchControlFlow};
 ghost use Rattle.report.specs.Text.{program_text};
 
 use std::io::{ErrorKind, Read, Stdin, Stdout, Write};
+use std::ops::ControlFlow;
 use std::{io, thread};
 
 // How often a call is made at most: for days.
 const TURNS: u64 = 1000000000000;
-
-// How far a stream has been moved, and whether that is all.
-#[derive(Clone, Copy)]
-struct Moved {
-    done: usize,
-    over: bool,
-}
 
 // Whether the call that just failed may be made again; another thread runs first.
 fn may_retry(error: &io::Error) -> bool {
@@ -27,25 +22,20 @@ fn may_retry(error: &io::Error) -> bool {
     }
 }
 
-// One read into the room from `done` on. A read that fails leaves nothing: an input that is not whole is no deck.
-fn read_more(stdin: &mut Stdin, room: &mut [u8], done: usize) -> Moved
+// One read into the room from `done` on: how far it is filled then, and a break where that is all. A read that fails leaves
+// nothing: an input that is not whole is no deck.
+fn read_more(stdin: &mut Stdin, room: &mut [u8], done: usize) -> ControlFlow<usize, usize>
     requires { done ≤ length room.old }
-    ensures { result.done ≤ length room.old }
+    ensures { MatchControlFlow result (λ n. n ≤ length room.old) (λ n. n ≤ length room.old) }
 {
     match stdin.read(&mut room[done..]) {
-        Ok(0) => Moved { done, over: true },
-        Ok(n) => Moved {
-            done: done + n,
-            over: false,
-        },
+        Ok(0) => ControlFlow::Break(done),
+        Ok(n) => ControlFlow::Continue(done + n),
         Err(error) => {
             if may_retry(&error) {
-                Moved { done, over: false }
+                ControlFlow::Continue(done)
             } else {
-                Moved {
-                    done: 0,
-                    over: true,
-                }
+                ControlFlow::Break(0)
             }
         }
     }
@@ -55,14 +45,11 @@ fn read_count(stdin: &mut Stdin, room: &mut [u8]) -> usize
     ensures { result ≤ length room.old }
 {
     let mut done = 0;
-    let mut turns = TURNS;
-    while turns > 0 {
-        let moved = read_more(stdin, room, done);
-        done = moved.done;
-        if moved.over {
-            return done;
+    for _ in 0..TURNS {
+        match read_more(stdin, room, done) {
+            ControlFlow::Continue(n) => done = n,
+            ControlFlow::Break(n) => return n,
         }
-        turns -= 1;
     }
     0
 }
@@ -76,24 +63,21 @@ pub fn read_input(mut stdin: Stdin, room: &mut [u8]) -> &mut [u8]
     &mut room[..n]
 }
 
-// One write of the text from `done` on.
-fn write_more(stdout: &mut Stdout, text: &[u8], done: usize) -> io::Result<Moved>
+// One write of the text from `done` on: how far it is written then, and a break where that is all.
+fn write_more(stdout: &mut Stdout, text: &[u8], done: usize) -> io::Result<ControlFlow<(), usize>>
     requires { done ≤ length text.now }
-    ensures { IfOk result (λ moved. moved.done ≤ length text.now) }
+    ensures { IfOk result (λ moved. MatchControlFlow moved (λ n. n ≤ length text.now) (λ _. ⊤)) }
 {
     let rest = &text[done..];
     if rest.len() == 0 {
-        return Ok(Moved { done, over: true });
+        return Ok(ControlFlow::Break(()));
     }
     match stdout.write(rest) {
-        Ok(0) => Ok(Moved { done, over: true }),
-        Ok(n) => Ok(Moved {
-            done: done + n,
-            over: false,
-        }),
+        Ok(0) => Ok(ControlFlow::Break(())),
+        Ok(n) => Ok(ControlFlow::Continue(done + n)),
         Err(error) => {
             if may_retry(&error) {
-                Ok(Moved { done, over: false })
+                Ok(ControlFlow::Continue(done))
             } else {
                 Err(error)
             }
@@ -106,14 +90,11 @@ pub fn write_text(mut stdout: Stdout, input: &[u8], text: &[u8]) -> io::Result<(
     requires { text.now ≡ program_text input.now }
 {
     let mut done = 0;
-    let mut turns = TURNS;
-    while turns > 0 {
-        let moved = write_more(&mut stdout, text, done)?;
-        done = moved.done;
-        if moved.over {
-            return Ok(());
+    for _ in 0..TURNS {
+        match write_more(&mut stdout, text, done)? {
+            ControlFlow::Continue(n) => done = n,
+            ControlFlow::Break(()) => return Ok(()),
         }
-        turns -= 1;
     }
     Ok(())
 }

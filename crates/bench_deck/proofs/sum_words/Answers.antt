@@ -10,11 +10,11 @@ step s i sum w so_far read =
 
 pub loop-i-init : goal.loop-i-init
 unfolding sum_of
-loop-i-init c = (omega arith, refl)
+loop-i-init c = refl
 
 pub loop-i-preserved : goal.loop-i-preserved
 loop-i-preserved c =
-    (omega arith, c.wrapping_add_u32-sum.ensures.value ∙ step _ c.loop-i.i _ _ c.loop-i.invariant.1 c.word.ensures)
+    c.wrapping_add-sum.ensures ∙ step _ c.loop-i.i _ _ c.loop-i.invariant c.word.ensures
 
 pub returns : goal.returns
-returns c = c.loop-i.invariant.1 ∙ ap (sum_of _) (le_antisymm c.loop-i.invariant.0 c.loop-i-test.false)
+returns c = c.loop-i.invariant ∙ ap (sum_of _) (le_antisymm c.loop-i.auto.i-end c.loop-i-test.false)

@@ -4,7 +4,4 @@ use Rattle.bench_deck.proofs.sum_words.Given as goal
 
 -- the sum so far is that of the words passed
 abbrev pub invariant-loop-i : goal.invariant-loop-i
-invariant-loop-i l = (l.i ≤ l.n) × (l.sum ≡ sum_of l.deck l.i)
-
-abbrev pub decreases-loop-i : goal.decreases-loop-i
-decreases-loop-i l = l.n - l.i
+invariant-loop-i l = l.sum ≡ sum_of l.deck l.i

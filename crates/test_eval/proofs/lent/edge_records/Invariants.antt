@@ -1,9 +1,0 @@
--- the edges that are still to be expanded
-use Rattle.std.proofs.Common.{◌-◌, ◌≤◌}
-use Rattle.test_eval.proofs.lent.edge_records.Given as goal
-
-abbrev pub invariant-loop-i : goal.invariant-loop-i
-invariant-loop-i l = l.i ≤ l.count
-
-abbrev pub decreases-loop-i : goal.decreases-loop-i
-decreases-loop-i l = l.count - l.i
