@@ -1,5 +1,5 @@
 // A label is interned, and the edge to its element added: what both expansions do with a target.
-ghost use Rattle.std.specs.Prelude.{◌≡◌};
+ghost use Rattle.std.specs.Prelude.{◌≡◌, is_err, IfOk};
 ghost use Rattle.deck.specs.Content.{deck_of};
 ghost use Rattle.eval.specs.Lent.{label_width};
 ghost use Rattle.atoms.specs.Rows.{rows_of};
@@ -8,8 +8,10 @@ ghost use Rattle.build.specs.Push.{Tail};
 ghost use Rattle.atoms.specs.Floor.{floored};
 ghost use Rattle.build.specs.Model as spec;
 ghost use Rattle.build.specs.Model.{lent, begun, Prepared, Built};
+ghost use Rattle.build.specs.Building.{Ready, Holds, label_in, model_of};
 
 use crate::bounds::Bounds;
+use crate::building::{Build, Tripped};
 use crate::intern::intern;
 use crate::push::push_edge;
 use crate::tally::{Step, Tally};
@@ -24,7 +26,33 @@ pub struct Arrival {
     pub element: Element,
 }
 
-// The element of the label in the making, and the edge of the role to it; the element bound is tested in between. The edges below `since` leave other elements.
+impl Build<'_, '_> {
+    // The element of the label in the making, and the edge of the role to it; the element bound is tested in between. The edges below `since` leave other elements.
+    pub fn reach(&mut self, role: RoleId, from: Element, since: u32) -> Result<Element, Tripped>
+        requires ready { Ready self.old }
+        requires tail { Tail self.old.edges.now self.old.tally.edges since from.0 }
+        ensures holds { Holds self.old self.new (is_err result) (spec.reach self.old.plan.bounds role.0 from.0 (label_in self.old) (model_of self.old)) }
+        ensures place { IfOk result (λ e. e.0 ≡ index_of (model_of self.old).labels (label_in self.old)) }
+    {
+        let placed = intern(
+            self.plan.deck.bytes,
+            self.plan.floor,
+            self.label,
+            self.labels,
+            self.tally.elements,
+        );
+        let to = placed.element;
+        self.tally.elements = placed.elements;
+        if self.plan.bounds.max_elements < placed.elements {
+            self.note(Reason::bound_tripped(0, self.plan.bounds.max_elements));
+            return Err(Tripped);
+        }
+        self.push_edge(Edge { role, from, to }, since)?;
+        Ok(to)
+    }
+}
+
+// The same over what is lent: until all crates above take a `Build`.
 pub fn reach(
     deck: &[u8],
     bounds: Bounds,
