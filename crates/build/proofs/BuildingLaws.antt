@@ -1,6 +1,6 @@
 -- Steps of a structure in the making, one after the other.
 use mathlib.Core.Bool.{false}
-use mathlib.Core.Path.{◌≡◌, refl, ◌∙◌}
+use mathlib.Core.Path.{refl, ◌∙◌}
 use Rattle.build.specs.declared.building.Build.{Build}
 use Rattle.build.specs.Model.{Model, Built}
 use Rattle.build.specs.Building.{deck_in, buffers, step_to, Ready, Same, Holds}

@@ -16,7 +16,7 @@ use Rattle.deck.specs.declared.concepts.ConceptExpr.{ConceptExpr}
 use Rattle.deck.specs.declared.numbers.ConceptId.{ConceptId}
 use Rattle.deck.specs.declared.numbers.RoleWord.{RoleWord}
 use Rattle.deck.specs.declared.rows.Span.{Span}
-use Rattle.deck.specs.Numbers.{inverse_word, role_number}
+use Rattle.deck.specs.Numbers.{inverse_word}
 use Rattle.deck.specs.Deck.{Deck, Concept, Role, concept_at}
 use Rattle.deck.specs.Content.{IsAccepted, deck_of}
 use Rattle.deck.specs.Reads.{ConceptRead, expr_of}

@@ -5,8 +5,9 @@ use Rattle.deck.specs.Content.{deck_of}
 use Rattle.atoms.specs.Floor.{floored}
 use Rattle.build.specs.declared.building.Build.{Build}
 use Rattle.build.specs.declared.tally.Step.{Step}
+use Rattle.build.specs.Intern.{Placed}
 use Rattle.build.specs.Push.{State, start, Room, Left}
-use Rattle.build.specs.Model.{Model, Buffers, lent, begun, Prepared, Built}
+use Rattle.build.specs.Model.{Model, Buffers, lent, begun, among, Prepared, Built}
 
 abbrev pub deck_in : Build → Deck
 deck_in b = deck_of b.plan.deck.bytes.now
@@ -47,6 +48,15 @@ pub record Same (b b' : Build) : Type 0 where
   pub labels : b'.labels.ghost_name ≡ b.labels.ghost_name
   pub edges : b'.edges.ghost_name ≡ b.edges.ghost_name
   pub log : b'.log.ghost_name ≡ b.log.ghost_name
+
+-- after l is interned, as element e
+pub record Interns (b b' : Build) (l : List ℕ) (e : ℕ) : Type 0 where
+  pub same : Same b b'
+  pub placed : Placed b.labels.now b'.labels.now (model_of b).labels l e b'.tally.elements
+  pub label : b'.label.now ≡ l
+  pub tally : b'.tally ≡ among b'.tally.elements b.tally
+  pub edges : b'.edges ≡ b.edges
+  pub log : b'.log ≡ b.log
 
 -- after a step that adds edges and reasons alone they are those of s
 pub record Pushed (b b' : Build) (tripped : Bool) (s : State) : Type 0 where

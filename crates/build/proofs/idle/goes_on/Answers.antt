@@ -1,5 +1,4 @@
 use borrow.Enum.Refused.{opened}
-use mathlib.Core.Path.{sym, ◌∙◌}
 use Rattle.build.proofs.IdleLaws.{builds-and, builds-some, builds-other}
 use Rattle.build.proofs.idle.goes_on.Goals as goal
 

@@ -1,7 +1,6 @@
 use Rattle.std.proofs.Common.{refl, sym, ◌∙◌, ◌≤◌, length, arith}
 use Rattle.std.proofs.lemmas.Result.{err_from_is_err_and}
 use borrow.Enum.Refused.{opened}
-use Rattle.build.specs.Building.{buffers}
 use Rattle.build.proofs.BuildingLaws.{same-refl, same-trans, ready-at}
 use Rattle.build.proofs.QuietLaws.{quiet-reached, quiet-kept}
 use Rattle.build.proofs.IdleLaws.{skipped-idle}

@@ -1,0 +1,33 @@
+use borrow.Author.Rules.{rules}
+use mathlib.Core.Path.{◌≡◌, refl, ◌∙◌}
+use native.Mathlib.Omega.{arith}
+use lib.ListN.{length}
+use Rattle.eval.specs.Lent.{label_width}
+use Rattle.atoms.proofs.RowLaws.{room, length-rows}
+use Rattle.build.specs.Building.{deck_in}
+use Rattle.build.proofs.InternLaws.{placed-known}
+use Rattle.build.proofs.building.Build.intern.Goals as goal
+
+pub returns-in-Some : goal.returns-in-Some
+returns-in-Some c =
+    let S = c.args.self.now in
+    let e : length c.apply_floor.new.label ≡ label_width (deck_in S) = c.apply_floor.auto.label ∙ c.requires.label_len in
+    let f = rw (e, c.apply_floor.ensures) at c.in-Some.ensures.some in
+    record {
+      same = search rules;
+      placed = placed-known _ _ _ _ (omega (arith, room _ _ _ c.requires.room)) _ f.0 (omega (arith, f.1, length-rows (label_width (deck_in S)) S.tally.elements S.labels.now));
+      label = c.apply_floor.ensures;
+      tally = refl;
+      edges = refl;
+      log = refl;
+    }
+
+pub append_label-requires-clause-new : goal.append_label-requires-clause-new
+append_label-requires-clause-new c =
+    let e : length c.apply_floor.new.label ≡ label_width (deck_in c.args.self.now) = c.apply_floor.auto.label ∙ c.requires.label_len in
+    rw e at c.in-None.ensures.none
+
+pub returns-in-None : goal.returns-in-None
+returns-in-None c =
+    let p = c.append_label.ensures in
+    record { same = search rules; placed = rw c.apply_floor.ensures at p.placed; label = p.label ∙ c.apply_floor.ensures; tally = p.tally; edges = p.edges; log = p.log }
