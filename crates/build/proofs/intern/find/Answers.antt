@@ -1,16 +1,12 @@
 use mathlib.Core.Path.{sym, ◌∙◌}
 use Prim.Native.Nat.{ℕ, ◌<◌}
 use native.Mathlib.Omega.{arith}
-use borrow.Author.Count.{below_none, below_more}
+use borrow.Author.Count.{below_more}
 use Rattle.std.proofs.lemmas.Slice.Eq.{slice_eq-Decides}
 use Rattle.std.proofs.lemmas.Bool.Decides.{Decides-eqb}
 use Rattle.atoms.proofs.LabelLaws.{not_so, same-eq}
 use Rattle.build.proofs.InternLaws.{same-by, found-row, found-no-row}
 use Rattle.build.proofs.intern.find.Goals as goal
-
-pub loop-e-init : goal.loop-e-init
-loop-e-init c =
-    below_none _
 
 pub loop-e-preserved-then-differs : goal.loop-e-preserved-then-differs
 loop-e-preserved-then-differs c =

@@ -4,17 +4,13 @@ use native.Mathlib.Omega.{arith}
 use Rattle.std.proofs.lemmas.Slice.Eq.{slice_eq-Decides}
 use Rattle.std.proofs.lemmas.Bool.Decides.{Decides-eqb}
 use Rattle.build.proofs.InternLaws.{same-by}
-use Rattle.build.proofs.PrintLaws.{seeking-start, seeking-row, seeking-here, seeking-on, seeking-fall, seeking-done}
+use Rattle.build.proofs.PrintLaws.{seeking-start, seeking-row, seeking-here, seeking-on, seeking-done}
 use Rattle.build.proofs.prints.find_at.Goals as goal
 use Rattle.build.proofs.prints.find_at.Goals.{then-eq, else-eq}
 
 pub loop-p-init : goal.loop-p-init
 loop-p-init c =
     seeking-start _ _ _ _ _ _ c.requires.chained _ c.requires.h_value
-
-pub loop-p-smaller : goal.loop-p-smaller
-loop-p-smaller c =
-    seeking-fall _ _ _ _ _ _ c.requires.chained _ _ c.loop-p.invariant _ (omega arith)
 
 pub loop-p-preserved : goal.loop-p-preserved
 loop-p-preserved c =

@@ -1,6 +1,6 @@
 use Prim.Native.Nat.{ℕ}
-use mathlib.Core.Path.{◌≡◌, sym, ap, ◌∙◌}
-use lib.ListN.{length, get_or}
+use mathlib.Core.Path.{sym, ap, ◌∙◌}
+use lib.ListN.{get_or}
 use native.Mathlib.Omega.{arith}
 use Rattle.build.specs.Prints.{mixed}
 use Rattle.build.proofs.PrintLaws.{print-none, print-skip, print-mix}
@@ -19,8 +19,3 @@ loop-i-preserved c =
       | then-label-i-ne0 w ↦ (w.h-is ∙ w.mix-h.ensures.0 ∙ ap (λ (m : ℕ). mixed m z.i (get_or l z.i 0)) z.invariant.0 ∙ sym (print-mix l z.i w.if-label-i-ne0.true), omega (arith, w.h-is, w.mix-h.ensures.1))
       | else-label-i-ne0 w ↦ (w.h-is ∙ z.invariant.0 ∙ sym (print-skip l z.i w.if-label-i-ne0.false), omega (arith, w.h-is, z.invariant.1))
     ]
-
-pub returns : goal.returns
-returns c =
-    let e : c.loop-i.i ≡ length c.args.label.now = omega (arith, c.loop-i.auto) in
-    rw e at c.loop-i.invariant.0

@@ -1,14 +1,10 @@
-use mathlib.Core.Path.{refl, sym, ◌∙◌}
+use mathlib.Core.Path.{sym, ◌∙◌}
 use native.Mathlib.Omega.{arith}
 use Rattle.deck.specs.Content.{deck_of}
 use Rattle.atoms.specs.Label.{label_of}
 use Rattle.atoms.proofs.ListWalks.{taken_step, taken-end}
 use Rattle.build.proofs.SeedLaws.{no_fact}
 use Rattle.build.proofs.seed.load_facts.Goals as goal
-
-pub loop-i-init : goal.loop-i-init
-loop-i-init c =
-    (refl, refl)
 
 pub loop-i-preserved : goal.loop-i-preserved
 loop-i-preserved c =

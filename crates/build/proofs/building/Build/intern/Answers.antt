@@ -21,13 +21,3 @@ returns-in-Some c =
       edges = refl;
       log = refl;
     }
-
-pub append_label-requires-clause-new : goal.append_label-requires-clause-new
-append_label-requires-clause-new c =
-    let e : length c.apply_floor.new.label ≡ label_width (deck_in c.args.self.now) = c.apply_floor.auto.label ∙ c.requires.label_len in
-    rw e at c.in-None.ensures.none
-
-pub returns-in-None : goal.returns-in-None
-returns-in-None c =
-    let p = c.append_label.ensures in
-    record { same = search rules; placed = rw c.apply_floor.ensures at p.placed; label = p.label ∙ c.apply_floor.ensures; tally = p.tally; edges = p.edges; log = p.log }

@@ -9,11 +9,6 @@ use Rattle.build.proofs.InternLaws.{placed-known}
 use Rattle.build.proofs.PrintLaws.{chained-known, chained-new}
 use Rattle.build.proofs.building.Build.intern_by.Goals as goal
 
-pub find_at-requires-clause-chained : goal.find_at-requires-clause-chained
-find_at-requires-clause-chained c =
-    let e : length c.apply_floor.new.label ≡ label_width (deck_in c.args.self.now) = c.apply_floor.auto.label ∙ c.requires.label_len in
-    rw e c.requires.chained
-
 pub returns-in-Some : goal.returns-in-Some
 returns-in-Some c =
     let S = c.args.self.now in
@@ -30,11 +25,6 @@ returns-in-Some c =
       };
       chained_2 = chained-known _ _ _ _ _ _ c.requires.chained _ f.0 (omega (arith, f.1, length-rows (label_width (deck_in S)) S.tally.elements S.labels.now));
     }
-
-pub append_label-requires-clause-new : goal.append_label-requires-clause-new
-append_label-requires-clause-new c =
-    let e : length c.apply_floor.new.label ≡ label_width (deck_in c.args.self.now) = c.apply_floor.auto.label ∙ c.requires.label_len in
-    rw e at c.in-None.ensures.none
 
 pub returns-in-None : goal.returns-in-None
 returns-in-None c =

@@ -1,4 +1,4 @@
-use borrow.Author.Tests.{lt-ltb, le-ltb}
+use borrow.Author.Tests.{lt-ltb}
 use Rattle.atoms.specs.Reasons.{bound_tripped}
 use Rattle.build.proofs.BuildLaws.{left-trip}
 use Rattle.build.proofs.building.Build.link.Goals as goal
@@ -14,8 +14,3 @@ returns-then-self c =
       left = rw (n.tally, n.rest.2, n.log, c.bound_tripped.ensures, lt-ltb _ _ c.if-self.true)
           (left-trip S.plan.bounds.max_edges S.edges.now S.log.now S.tally c.requires.room (bound_tripped 0 S.plan.bounds.max_elements));
     }
-
-pub returns : goal.returns
-returns c =
-    let p = c.push_edge.ensures in
-    record { same = p.same; label = p.label; labels = p.labels; left = rw (le-ltb _ _ c.if-self.false) p.left }

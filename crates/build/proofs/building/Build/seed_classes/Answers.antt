@@ -1,4 +1,4 @@
-use mathlib.Core.Path.{◌≡◌, refl, sym, ap, ◌∙◌}
+use mathlib.Core.Path.{refl, sym, ap, ◌∙◌}
 use native.Mathlib.Omega.{arith}
 use lib.ListN.{length}
 use Rattle.atoms.proofs.RowLaws.{room-below}
@@ -49,11 +49,3 @@ loop-k-preserved c =
       | else-is_seeded w ↦ let e = sym c.is_seeded.ensures ∙ w.if-is_seeded.false in
           rw (w.self-is, w.heads-is, w.links-is) (z.0, z.1, z.2 ∙ last-skip _ _ _ _ e, seed-skip _ _ _ _ _ _ z.3 e, table-skip _ _ _ _ _ e z.4, z.5, z.6, z.7)
     ]
-
-pub returns : goal.returns
-returns c =
-    let z = c.loop-k.invariant in
-    let n : c.loop-k.k ≡ c.class_count-k-end.result = omega (arith, c.loop-k.auto) in
-    let e = n ∙ c.class_count-k-end.ensures.is in
-    let h = rw e at z.3 in
-    record { same = z.0; seeded = record { label = rw e at z.2; buffer = h.is; count = h.count }; rest = (z.5, z.6, z.7) }
