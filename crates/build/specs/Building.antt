@@ -1,11 +1,13 @@
 -- A structure in the making as one value: what its steps need, and what they leave.
-use Rattle.std.specs.Prelude.{ℕ, ◌≡◌, Bool, List}
-use Rattle.deck.specs.Deck.{Deck}
+use Rattle.std.specs.Prelude.{ℕ, ◌+◌, ◌*◌, ◌≤◌, ◌<◌, ◌≡◌, Bool, List, length}
+use Rattle.deck.specs.Deck.{Deck, class_count}
 use Rattle.deck.specs.Content.{deck_of}
+use Rattle.eval.specs.Lent.{label_width}
 use Rattle.atoms.specs.Floor.{floored}
 use Rattle.build.specs.declared.building.Build.{Build}
 use Rattle.build.specs.declared.tally.Step.{Step}
 use Rattle.build.specs.Intern.{Placed}
+use Rattle.build.specs.Seed.{Seeded}
 use Rattle.build.specs.Push.{State, start, Room, Left}
 use Rattle.build.specs.Model.{Model, Buffers, lent, begun, among, Prepared, Built}
 
@@ -33,6 +35,18 @@ state_of b = start b.edges.now b.log.now b.tally
 abbrev pub HasRoom : Build → Type 0
 HasRoom b = Room b.plan.bounds.max_edges b.edges.now b.tally.edges
 
+-- place for one more element
+pub record HasPlace (b : Build) : Type 0 where
+  pub label-wide : length b.label.now ≡ label_width (deck_in b)
+  pub rows : (b.tally.elements + 1) * label_width (deck_in b) ≤ length b.labels.now
+  pub few : b.tally.elements < 65536
+
+-- no element yet, and place for one of each class
+pub record Unseeded (b : Build) : Type 0 where
+  pub empty : b.tally.elements ≡ 0
+  pub label-wide : length b.label.now ≡ label_width (deck_in b)
+  pub rows : (class_count (deck_in b) + 1) * label_width (deck_in b) ≤ length b.labels.now
+
 abbrev pub Ready : Build → Type 0
 Ready b = Prepared b.plan.deck.bytes.now b.plan.bounds (buffers b) b.tally b.plan.floor.now b.label.now
 
@@ -54,6 +68,14 @@ pub record Interns (b b' : Build) (l : List ℕ) (e : ℕ) : Type 0 where
   pub same : Same b b'
   pub placed : Placed b.labels.now b'.labels.now (model_of b).labels l e b'.tally.elements
   pub label : b'.label.now ≡ l
+  pub tally : b'.tally ≡ among b'.tally.elements b.tally
+  pub edges : b'.edges ≡ b.edges
+  pub log : b'.log ≡ b.log
+
+-- after seeding
+pub record Seeds (b b' : Build) : Type 0 where
+  pub same : Same b b'
+  pub seeded : Seeded (deck_in b) b.plan.floor.now b.label.now b'.label.now b.labels.now b'.labels.now b'.tally.elements
   pub tally : b'.tally ≡ among b'.tally.elements b.tally
   pub edges : b'.edges ≡ b.edges
   pub log : b'.log ≡ b.log

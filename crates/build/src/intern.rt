@@ -5,8 +5,7 @@ ghost use Rattle.std.specs.Prelude.{◌≡◌, true, ◌+◌, ◌*◌, ◌<◌, 
 ghost use Rattle.std.proofs.Math.Seq.{paste};
 ghost use Rattle.atoms.specs.Rows.{row_at, rows_of};
 ghost use Rattle.build.specs.Intern.{index_of, Found};
-ghost use Rattle.build.specs.Building.{Interns, deck_in, label_in, model_of};
-ghost use Rattle.eval.specs.Lent.{label_width};
+ghost use Rattle.build.specs.Building.{HasPlace, Interns, label_in, model_of};
 
 use crate::building::Build;
 use atoms::floor::apply_floor;
@@ -84,9 +83,7 @@ fn store(labels: &mut [u64], at: usize, label: &[u64])
 impl Build<'_, '_> {
     // The label in the making, which is new, is appended; its element.
     pub(crate) fn append_label(&mut self) -> Element
-        requires label_len { length self.old.label.now ≡ label_width (deck_in self.old) }
-        requires room { (self.old.tally.elements + 1) * label_width (deck_in self.old) ≤ length self.old.labels.now }
-        requires few { self.old.tally.elements < 65536 }
+        requires place { HasPlace self.old }
         requires new { index_of (model_of self.old).labels self.old.label.now ≡ length (model_of self.old).labels }
         ensures { Interns self.old self.new self.old.label.now result.0 }
     {
@@ -103,9 +100,7 @@ impl Build<'_, '_> {
 
     // The element of the label in the making, which takes the floor in first where it has no real class.
     pub fn intern(&mut self) -> Element
-        requires label_len { length self.old.label.now ≡ label_width (deck_in self.old) }
-        requires room { (self.old.tally.elements + 1) * label_width (deck_in self.old) ≤ length self.old.labels.now }
-        requires few { self.old.tally.elements < 65536 }
+        requires { HasPlace self.old }
         ensures { Interns self.old self.new (label_in self.old) result.0 }
     {
         apply_floor(self.plan.deck.bytes, self.plan.floor, self.label);

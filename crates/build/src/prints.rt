@@ -1,10 +1,9 @@
 // Labels found by fingerprint, for seeding and for the targets of facts: the elements of one slot are a chain, the last first. `heads` has one more than the
 // first of each chain, `links` one more than the next after each element, 0 being none.
 ghost use Rattle.std.specs.Prelude.{◌≡◌, ◌+◌, ◌*◌, ◌<◌, ◌≤◌, length, get_or, set};
-ghost use Rattle.eval.specs.Lent.{label_width};
 ghost use Rattle.atoms.specs.Rows.{rows_of};
 ghost use Rattle.build.specs.Intern.{index_of, interned, Found};
-ghost use Rattle.build.specs.Building.{Interns, deck_in, label_in, model_of};
+ghost use Rattle.build.specs.Building.{HasPlace, Interns, label_in, model_of};
 ghost use Rattle.build.specs.Prints.{mixed, print_to, slot_of, Chained};
 
 use crate::building::Build;
@@ -106,9 +105,7 @@ pub fn chain(heads: &mut [u32], links: &mut [u32], h: usize, element: u32)
 impl Build<'_, '_> {
     // The element of the label in the making, which takes the floor in first where it has no real class. A new one becomes the first of its chain.
     pub fn intern_by(&mut self, heads: &mut [u32], links: &mut [u32]) -> Element
-        requires label_len { length self.old.label.now ≡ label_width (deck_in self.old) }
-        requires room { (self.old.tally.elements + 1) * label_width (deck_in self.old) ≤ length self.old.labels.now }
-        requires few { self.old.tally.elements < 65536 }
+        requires place { HasPlace self.old }
         requires elements_in_bounds { self.old.tally.elements < length links.old }
         requires chained { Chained (model_of self.old).labels heads.old links.old }
         ensures interns { Interns self.old self.new (label_in self.old) result.0 }

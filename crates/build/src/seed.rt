@@ -8,8 +8,7 @@ ghost use Rattle.atoms.specs.Label.{insert_all, label_of};
 ghost use Rattle.build.specs.Intern.{interned};
 ghost use Rattle.build.specs.Prints.{Chained};
 ghost use Rattle.build.specs.Seed.{ends_of, Named, is_seeded, row_label, Seeded};
-ghost use Rattle.build.specs.Model.{among};
-ghost use Rattle.build.specs.Building.{Same, Interns, deck_in, model_of};
+ghost use Rattle.build.specs.Building.{HasPlace, Interns, Unseeded, Seeds, deck_in, model_of};
 
 use crate::bounds::Bounds;
 use crate::building::Build;
@@ -73,9 +72,7 @@ impl Build<'_, '_> {
     // A class is interned by its row.
     fn intern_row(&mut self, class: ClassId, heads: &mut [u32], links: &mut [u32]) -> Element
         requires class_bound { class.0 < class_count (deck_in self.old) }
-        requires label_len { length self.old.label.now ≡ label_width (deck_in self.old) }
-        requires room { (self.old.tally.elements + 1) * label_width (deck_in self.old) ≤ length self.old.labels.now }
-        requires few { self.old.tally.elements < 65536 }
+        requires place { HasPlace self.old }
         requires elements_in_bounds { self.old.tally.elements < length links.old }
         requires chained { Chained (model_of self.old).labels heads.old links.old }
         ensures interns { Interns self.old self.new (row_label (deck_in self.old) self.old.plan.floor.now class.0) result.0 }
@@ -87,16 +84,12 @@ impl Build<'_, '_> {
 
     // The classes by rising number.
     fn seed_classes(&mut self, named: &[u64], heads: &mut [u32], links: &mut [u32])
-        requires empty { self.old.tally.elements ≡ 0 }
-        requires label_len { length self.old.label.now ≡ label_width (deck_in self.old) }
-        requires room { (class_count (deck_in self.old) + 1) * label_width (deck_in self.old) ≤ length self.old.labels.now }
+        requires unseeded { Unseeded self.old }
         requires named_len { length named.now ≡ 64 }
         requires named { Named (deck_in self.old) named.now }
         requires links_len { class_count (deck_in self.old) ≤ length links.old }
         requires chained { Chained [] heads.old links.old }
-        ensures same { Same self.old self.new }
-        ensures seeded { Seeded (deck_in self.old) self.old.plan.floor.now self.old.label.now self.new.label.now self.old.labels.now self.new.labels.now self.new.tally.elements }
-        ensures rest { (self.new.edges ≡ self.old.edges) × (self.new.log ≡ self.old.log) × (self.new.tally ≡ among self.new.tally.elements self.old.tally) }
+        ensures { Seeds self.old self.new }
     {
         let deck = self.plan.deck;
         for k in 0..deck.class_count() {
@@ -110,13 +103,9 @@ impl Build<'_, '_> {
     #[inline(never)]
     fn seed_with<const N: usize>(&mut self)
         requires slots { (0 < N) × (N ≤ 4096) }
-        requires empty { self.old.tally.elements ≡ 0 }
-        requires label_len { length self.old.label.now ≡ label_width (deck_in self.old) }
-        requires room { (class_count (deck_in self.old) + 1) * label_width (deck_in self.old) ≤ length self.old.labels.now }
+        requires unseeded { Unseeded self.old }
         requires deck_bound { class_count (deck_in self.old) ≤ N }
-        ensures same { Same self.old self.new }
-        ensures seeded { Seeded (deck_in self.old) self.old.plan.floor.now self.old.label.now self.new.label.now self.old.labels.now self.new.labels.now self.new.tally.elements }
-        ensures rest { (self.new.edges ≡ self.old.edges) × (self.new.log ≡ self.old.log) × (self.new.tally ≡ among self.new.tally.elements self.old.tally) }
+        ensures { Seeds self.old self.new }
     {
         let mut named: [u64; 64] = [0; 64];
         let mut heads: [u32; N] = [0; N];
@@ -128,12 +117,8 @@ impl Build<'_, '_> {
 
     // The elements of the seeded classes, by rising class.
     pub fn seed(&mut self)
-        requires empty { self.old.tally.elements ≡ 0 }
-        requires label_len { length self.old.label.now ≡ label_width (deck_in self.old) }
-        requires room { (class_count (deck_in self.old) + 1) * label_width (deck_in self.old) ≤ length self.old.labels.now }
-        ensures same { Same self.old self.new }
-        ensures seeded { Seeded (deck_in self.old) self.old.plan.floor.now self.old.label.now self.new.label.now self.old.labels.now self.new.labels.now self.new.tally.elements }
-        ensures rest { (self.new.edges ≡ self.old.edges) × (self.new.log ≡ self.old.log) × (self.new.tally ≡ among self.new.tally.elements self.old.tally) }
+        requires { Unseeded self.old }
+        ensures { Seeds self.old self.new }
     {
         let deck = self.plan.deck;
         if deck.class_count() <= 256 {

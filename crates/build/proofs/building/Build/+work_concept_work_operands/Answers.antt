@@ -1,11 +1,11 @@
 use Rattle.std.proofs.Common.{refl, sym, ◌∙◌, ◌≤◌, length, arith}
 use Rattle.std.proofs.lemmas.Result.{err_from_is_err_and}
 use borrow.Enum.Refused.{opened}
-use Rattle.build.proofs.BuildingLaws.{same-refl, same-trans, ready-at}
+use Rattle.build.proofs.BuildingLaws.{same-refl, same-trans, ready-at, walking-start, walking-ready, walking-skip, walking-next, walking-stop, walking-done}
 use Rattle.build.proofs.QuietLaws.{quiet-reached, quiet-kept}
 use Rattle.build.proofs.IdleLaws.{skipped-idle}
 use Rattle.build.proofs.ExistsLaws.{work-stuck, and-leaves, inverse-leaves, some-stops, some-goes, other-leaves, descending-start, descending-next, descending-ends}
-use Rattle.build.proofs.BuildLaws.{model-start, model-done, model-stop, model-next, prepared-after, built-is, built-same}
+use Rattle.build.proofs.BuildLaws.{prepared-after}
 use Rattle.atoms.proofs.FloorLaws.{fits_read}
 use Rattle.atoms.proofs.WalkLaws.{operand}
 use Rattle.deck.proofs.TableLaws.{list_length}
@@ -67,49 +67,46 @@ work_concept-returns-in_default t c =
 
 pub work_operands-loop-i-init : goal.work_operands-loop-i-init
 work_operands-loop-i-init t c =
-    (same-refl, refl, model-start _ _ c.requires.ready, c.requires.quiet)
+    (refl, walking-start _ _ c.requires.ready, c.requires.quiet)
 
 pub work_operands-loop-i-preserved-then-is_idle : goal.work_operands-loop-i-preserved-then-is_idle
 work_operands-loop-i-preserved-then-is_idle t c =
     let G = c.loop-i.invariant in
     let l = c.args.list in
     let s = c.args.self.now.plan.deck.bytes.now in
-    let P = prepared-after c.requires.ready G.2.built refl in
+    let P = prepared-after c.requires.ready G.1.on.built refl in
     let q = operand (list_of s l) c.loop-i.i (omega (arith, list_length s l.start l.count)) c.item.ensures in
-    let k = skipped-idle _ G.3 (omega (arith, P.space.bound, P.space.room)) (c.is_idle.ensures c.if-is_idle.true) in
-    (G.0, G.1, model-next G.2 q (built-is (built-same P) k) refl, G.3)
+    (G.0, walking-skip G.1 q c.requires.ready (skipped-idle _ G.2 (omega (arith, P.space.bound, P.space.room)) (c.is_idle.ensures c.if-is_idle.true)), G.2)
 
 pub work_operands-work_concept-requires : goal.work_operands-work_concept-requires
 work_operands-work_concept-requires t c =
     let G = c.loop-i.invariant in
+    let Z = G.1.same.plan in
     let l = c.args.list in
     let o = c.requires.list_fits.below c.loop-i.i (omega (arith, list_length c.args.self.now.plan.deck.bytes.now l.start l.count)) in
-    (omega (arith, o, c.item.ensures), (ready-at c.requires.ready G.0 G.2.built, (rw G.0.plan (omega (arith, o, c.requires.owner_bound, c.item.ensures)), rw G.0.plan G.3)))
+    (omega (arith, o, c.item.ensures), (walking-ready G.1 c.requires.ready, (rw Z (omega (arith, o, c.requires.owner_bound, c.item.ensures)), rw Z G.2)))
 
 pub work_operands-returns-in_err-work_concept-clause-holds : goal.work_operands-returns-in_err-work_concept-clause-holds
 work_operands-returns-in_err-work_concept-clause-holds t c =
-    let G = c.loop-i.invariant in
     let l = c.args.list in
     let s = c.args.self.now.plan.deck.bytes.now in
-    let X = c.in_err-work_concept.ensures.holds in
     let z = err_from_is_err_and c.from_residual.result c.from_residual.ensures.1 in
     let q = operand (list_of s l) c.loop-i.i (omega (arith, list_length s l.start l.count)) c.item.ensures in
-    rw z.1 (record { same = same-trans G.0 X.same; built = model-stop G.2 q (rw G.0.plan at X.built) (λ o m w. work-stuck _ _ _ o _ m w) refl })
+    rw z.1 (walking-stop c.loop-i.invariant.1 q c.in_err-work_concept.ensures.holds (λ o m w. work-stuck _ _ _ o _ m w) refl)
 
 pub work_operands-loop-i-preserved : goal.work_operands-loop-i-preserved
 work_operands-loop-i-preserved t c =
     let G = c.loop-i.invariant in
+    let Z = G.1.same.plan in
     let l = c.args.list in
     let s = c.args.self.now.plan.deck.bytes.now in
     let X = c.in_ok-work_concept.ensures in
-    let Z = rw G.0.plan at X.holds.built in
     let q = operand (list_of s l) c.loop-i.i (omega (arith, list_length s l.start l.count)) c.item.ensures in
-    (same-trans G.0 X.holds.same, c.keep_quiet.auto.memo ∙ c.work_concept.auto.memo ∙ G.1, model-next G.2 q Z refl, quiet-kept (prepared-after c.requires.ready G.2.built refl) _ _ Z refl (rw G.0.plan at X.known) c.keep_quiet.ensures)
+    (c.keep_quiet.auto.memo ∙ c.work_concept.auto.memo ∙ G.0, walking-next G.1 q X.holds refl, quiet-kept (prepared-after c.requires.ready G.1.on.built refl) _ _ (rw Z at X.holds.built) refl (rw Z at X.known) c.keep_quiet.ensures)
 
 pub work_operands-returns-clause-holds : goal.work_operands-returns-clause-holds
 work_operands-returns-clause-holds t c =
-    let G = c.loop-i.invariant in
     let l = c.args.list in
     let s = c.args.self.now.plan.deck.bytes.now in
     let h : length (list_of s l) ≤ c.loop-i.i = omega (arith, c.loop-i.auto, list_length s l.start l.count) in
-    record { same = G.0; built = model-done G.2 (drop_of_length-le (list_of s l) h) }
+    walking-done c.loop-i.invariant.1 (drop_of_length-le (list_of s l) h)

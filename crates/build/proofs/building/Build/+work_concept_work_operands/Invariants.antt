@@ -1,6 +1,7 @@
 use Rattle.std.proofs.Common.{◌≡◌, ◌+◌, ◌*◌, length, drop}
 use Rattle.build.proofs.ExistsLaws.{Descending}
-use Rattle.build.proofs.BuildLaws.{OnModel}
+use Rattle.deck.specs.Content.{deck_of}
+use Rattle.build.proofs.BuildingLaws.{Walking}
 use Rattle.build.specs.Building.{Same, deck_in, buffers, model_by}
 use Rattle.build.specs.Quiet.{Quiet}
 use Rattle.build.specs.Exists.{work}
@@ -26,5 +27,4 @@ abbrev pub invariant-work_operands-loop-i : goal.invariant-work_operands-loop-i
 invariant-work_operands-loop-i l =
     let S = l.initial.self in
     let os = list_of S.plan.deck.bytes.now l.list in
-    Same S l.self × (length l.memo ≡ length l.initial.memo) × OnModel (deck_in S) S.plan.bounds (λ o. work (deck_in S) S.plan.floor.now S.plan.bounds o l.e.0) os (drop l.i os) (buffers S) S.tally (buffers l.self) l.self.label.now l.self.tally
-    × Quiet (deck_in S) S.plan.floor.now S.plan.bounds l.memo (model_by S l.self)
+    (length l.memo ≡ length l.initial.memo) × Walking S (λ p o. work (deck_of p.deck.bytes.now) p.floor.now p.bounds o l.e.0) os (drop l.i os) l.self × Quiet (deck_in S) S.plan.floor.now S.plan.bounds l.memo (model_by S l.self)

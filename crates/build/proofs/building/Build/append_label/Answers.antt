@@ -10,10 +10,10 @@ use Rattle.build.proofs.building.Build.append_label.Goals as goal
 pub returns : goal.returns
 returns c =
     let S = c.args.self.now in
-    let r = room _ _ _ c.requires.room in
+    let r = room _ _ _ c.requires.place.rows in
     record {
       same = search rules;
-      placed = placed-new _ _ _ _ (omega (arith, r)) _ (sym c.requires.new) (omega (arith, length-rows (label_width (deck_in S)) S.tally.elements S.labels.now)) c.requires.label_len r _ _ (rw c.requires.label_len at c.row_start-at.ensures.0) c.store.ensures;
+      placed = placed-new _ _ _ _ (omega (arith, r)) _ (sym c.requires.new) (omega (arith, length-rows (label_width (deck_in S)) S.tally.elements S.labels.now)) c.requires.place.label-wide r _ _ (rw c.requires.place.label-wide at c.row_start-at.ensures.0) c.store.ensures;
       label = refl;
       tally = refl;
       edges = refl;

@@ -11,7 +11,7 @@ use Rattle.build.proofs.building.Build.seed_classes.Goals.{then-is_seeded, else-
 
 pub loop-k-init : goal.loop-k-init
 loop-k-init c =
-    (same-refl, refl, last_none _ _ _, rw c.requires.empty (seed-start _ _ _), table-start _ _ _ _ c.requires.chained, refl, refl, refl)
+    (same-refl, refl, last_none _ _ _, rw c.requires.unseeded.empty (seed-start _ _ _), table-start _ _ _ _ c.requires.chained, refl, refl, refl)
 
 pub intern_row-element-requires : goal.intern_row-element-requires
 intern_row-element-requires c =
@@ -20,9 +20,11 @@ intern_row-element-requires c =
     let f = held-few _ _ _ _ _ _ z.3 in
     record {
       class_bound = rw z.0.plan (omega (arith, n.is));
-      label_len = rw z.0.plan (z.1 ∙ c.requires.label_len);
-      room = rw (z.0.plan, held-size _ _ _ _ _ _ z.3 (omega (arith, n.is)) c.requires.room) (room-below _ _ _ _ (omega (arith, f, n.is)) c.requires.room);
-      few = omega (arith, f, n.most);
+      place = record {
+        label-wide = rw z.0.plan (z.1 ∙ c.requires.unseeded.label-wide);
+        rows = rw (z.0.plan, held-size _ _ _ _ _ _ z.3 (omega (arith, n.is)) c.requires.unseeded.rows) (room-below _ _ _ _ (omega (arith, f, n.is)) c.requires.unseeded.rows);
+        few = omega (arith, f, n.most);
+      };
       elements_in_bounds = omega (arith, f, n.is, c.loop-k.auto.links, c.requires.links_len);
       chained = rw z.0.plan (table-rows _ _ _ _ _ _ _ _ z.3 z.4);
     }
@@ -38,7 +40,7 @@ loop-k-preserved c =
           let q = rw z.0.plan at p.label in
           rw (w.self-is, w.heads-is, w.links-is) (
             same-trans z.0 p.same,
-            ap length q ∙ length-row-label (deck_in S) S.plan.floor.now c.loop-k.k ∙ sym c.requires.label_len,
+            ap length q ∙ length-row-label (deck_in S) S.plan.floor.now c.loop-k.k ∙ sym c.requires.unseeded.label-wide,
             q ∙ last-take _ _ _ _ e,
             seed-more _ _ _ _ _ _ _ _ _ z.3 e (rw z.0.plan at p.placed),
             table_more _ _ _ _ _ _ _ _ z.3 e (rw z.0.plan at i.chained_2),
