@@ -114,7 +114,7 @@ impl Build<'_, '_> {
         Ok(())
     }
 
-    // The same with a table of N words: its room is made in a frame of its own.
+    // The same with a table of N words, whose room is made in a frame of its own. One of 1 word remembers no walk, and costs nothing to clear.
     #[inline(never)]
     fn work_with<const N: usize>(&mut self, concept: ConceptId, e: Element) -> Result<(), Tripped>
         requires words { (0 < N) × (N ≤ 16384) }

@@ -41,7 +41,7 @@ pub fn row(labels: &[u64], e: u32, n: u32, w: usize) -> &[u64]
     &labels[at..at + w]
 }
 
-// Whether two labels of one width differ in word w.
+// Whether two labels of one width differ in their word `last`, if there is one.
 fn differs(a: &[u64], b: &[u64], last: Option<usize>) -> bool
     requires same { length a.now ≡ length b.now }
     requires last { IfSome last (λ w. w < length b.now) }

@@ -1,5 +1,5 @@
 // Labels found by fingerprint, for seeding and for the targets of facts: the elements of one slot are a chain, the last first. `heads` has one more than the
-// first of each chain, `links` one more than the next after each element, 0 being none.
+// first of each chain, `links` one more than the next after each element. 0 is none, so that a table of zeros, in fixed memory, is an empty one.
 ghost use Rattle.std.specs.Prelude.{◌≡◌, ◌+◌, ◌*◌, ◌<◌, ◌≤◌, length, get_or, set};
 ghost use Rattle.atoms.specs.Rows.{rows_of};
 ghost use Rattle.build.specs.Intern.{index_of, interned, Found};
@@ -109,7 +109,7 @@ impl Build<'_, '_> {
         requires elements_in_bounds { self.old.tally.elements < length links.old }
         requires chained { Chained (model_of self.old).labels heads.old links.old }
         ensures interns { Interns self.old self.new (label_in self.old) result.0 }
-        ensures chained_2 { Chained (interned (model_of self.old).labels (label_in self.old)) heads.new links.new }
+        ensures chained_after { Chained (interned (model_of self.old).labels (label_in self.old)) heads.new links.new }
     {
         apply_floor(self.plan.deck.bytes, self.plan.floor, self.label);
         let count = self.tally.elements;

@@ -76,7 +76,7 @@ impl Build<'_, '_> {
         requires elements_in_bounds { self.old.tally.elements < length links.old }
         requires chained { Chained (model_of self.old).labels heads.old links.old }
         ensures interns { Interns self.old self.new (row_label (deck_in self.old) self.old.plan.floor.now class.0) result.0 }
-        ensures chained_2 { Chained (interned (model_of self.old).labels (row_label (deck_in self.old) self.old.plan.floor.now class.0)) heads.new links.new }
+        ensures chained_after { Chained (interned (model_of self.old).labels (row_label (deck_in self.old) self.old.plan.floor.now class.0)) heads.new links.new }
     {
         load_row(self.plan.deck.bytes, class, self.label);
         self.intern_by(heads, links)

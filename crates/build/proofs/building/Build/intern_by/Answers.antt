@@ -23,7 +23,7 @@ returns-in-Some c =
         edges = refl;
         log = refl;
       };
-      chained_2 = chained-known _ _ _ _ _ _ c.requires.chained _ f.0 (omega (arith, f.1, length-rows (label_width (deck_in S)) S.tally.elements S.labels.now));
+      chained_after = chained-known _ _ _ _ _ _ c.requires.chained _ f.0 (omega (arith, f.1, length-rows (label_width (deck_in S)) S.tally.elements S.labels.now));
     }
 
 pub returns-in-None : goal.returns-in-None
@@ -34,5 +34,5 @@ returns-in-None c =
     let g = rw (e, c.apply_floor.ensures) at c.in-None.ensures.none in
     record {
       interns = record { same = search rules; placed = rw c.apply_floor.ensures at p.placed; label = p.label ∙ c.apply_floor.ensures; tally = p.tally; edges = p.edges; log = p.log };
-      chained_2 = chained-new _ _ _ _ _ _ c.requires.chained _ refl (omega (arith, g, length-rows (label_width (deck_in S)) S.tally.elements S.labels.now)) _ (rw c.apply_floor.ensures at c.slot_of-h.ensures) c.requires.elements_in_bounds _ _ c.chain.ensures.heads_after c.chain.ensures.links_after;
+      chained_after = chained-new _ _ _ _ _ _ c.requires.chained _ refl (omega (arith, g, length-rows (label_width (deck_in S)) S.tally.elements S.labels.now)) _ (rw c.apply_floor.ensures at c.slot_of-h.ensures) c.requires.elements_in_bounds _ _ c.chain.ensures.heads_after c.chain.ensures.links_after;
     }

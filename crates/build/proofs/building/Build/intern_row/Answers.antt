@@ -6,4 +6,4 @@ unfolding row_label
 returns c =
     let i = c.intern_by.ensures in
     let p = i.interns in
-    record { interns = record { same = record { plan = p.same.plan; label = p.same.label; labels = p.same.labels; edges = p.same.edges; log = p.same.log }; placed = rw c.load_row.ensures at p.placed; label = rw c.load_row.ensures at p.label; tally = p.tally; edges = p.edges; log = p.log }; chained_2 = rw c.load_row.ensures at i.chained_2 }
+    record { interns = record { same = record { plan = p.same.plan; label = p.same.label; labels = p.same.labels; edges = p.same.edges; log = p.same.log }; placed = rw c.load_row.ensures at p.placed; label = rw c.load_row.ensures at p.label; tally = p.tally; edges = p.edges; log = p.log }; chained_after = rw c.load_row.ensures at i.chained_after }

@@ -43,7 +43,7 @@ loop-k-preserved c =
             ap length q ∙ length-row-label (deck_in S) S.plan.floor.now c.loop-k.k ∙ sym c.requires.unseeded.label-wide,
             q ∙ last-take _ _ _ _ e,
             seed-more _ _ _ _ _ _ _ _ _ z.3 e (rw z.0.plan at p.placed),
-            table_more _ _ _ _ _ _ _ _ z.3 e (rw z.0.plan at i.chained_2),
+            table_more _ _ _ _ _ _ _ _ z.3 e (rw z.0.plan at i.chained_after),
             p.edges ∙ z.5,
             p.log ∙ z.6,
             p.tally ∙ ap (among w.intern_row-element.new.self.tally.elements) z.7,
