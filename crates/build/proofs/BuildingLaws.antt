@@ -1,7 +1,7 @@
 -- Steps of a structure in the making, one after the other.
 --     same-refl, same-trans         what is only read, and the slices
 --     pushed-same, pushed-trans     steps that add edges alone
---     holds-same, holds-trans, holds-is, holds-start, ready-at, ready-after    steps that build
+--     holds-same, holds-trans, holds-is, holds-pushed, holds-start, ready-at, ready-after    steps that build
 --     Walking                       every loop that walks a list
 use mathlib.Core.Bool.{Bool, true, false}
 use mathlib.Core.Path.{◌≡◌, refl, ◌∙◌}
@@ -10,10 +10,11 @@ use Rattle.build.specs.declared.plan.Plan.{Plan}
 use Rattle.build.specs.declared.building.Build.{Build}
 use Rattle.atoms.specs.Walk.{walk}
 use Rattle.build.specs.Push.{State}
-use Rattle.build.specs.Model.{Model, Built}
+use native.Mathlib.Omega.{arith}
+use Rattle.build.specs.Model.{Model, with_state, Built}
 use Rattle.build.specs.Building.{deck_in, buffers, step_to, model_of, model_by, state_of, HasRoom, Ready, Same, Pushed, Holds}
 use Rattle.build.proofs.PushLaws.{left-same, left-trans}
-use Rattle.build.proofs.BuildLaws.{prepared-after, built-same, built-trans, built-is, built-start, OnModel, model-start, model-next, model-stop, model-done}
+use Rattle.build.proofs.BuildLaws.{left-among, prepared-after, built-same, built-trans, built-is, built-start, OnModel, model-start, model-next, model-stop, model-done}
 
 pub same-refl : {b : Build} → Same b b
 same-refl = record { plan = refl; label = refl; labels = refl; edges = refl; log = refl }
@@ -43,6 +44,23 @@ holds-is H e = rw e at H
 
 pub holds-trans : {a b c : Build} {r : Bool} {m k : Model} → Holds a b false m → Holds b c r k → Holds a c r k
 holds-trans H K = record { same = same-trans H.same K.same; built = built-trans H.built (rw H.same.plan at K.built) }
+
+-- steps that add edges alone build too
+pub holds-pushed : {a b : Build} {r : Bool} {s : State} → Ready a → Pushed a b r s → Holds a b r (with_state (model_of a) s)
+holds-pushed {a} {b} P Q =
+    let k : b.tally.elements ≡ a.tally.elements = Q.left.elements in
+    record {
+      same = Q.same;
+      built = rw (Q.label, Q.labels)
+          (record {
+            held = rw k (built-same P).held;
+            left = left-among Q.left b.tally.elements;
+            more = omega (arith, k);
+            most = omega (arith, k, P.few);
+            few = λ w. omega (arith, k, P.few);
+            wide = P.label-wide;
+          });
+    }
 
 -- what it leaves is what the next one begins with
 pub holds-start : {a b : Build} {m : Model} → Holds a b false m → model_by a b ≡ m
