@@ -18,6 +18,7 @@ use Rattle.deck.specs.Deck.{Deck, class_count}
 use Rattle.deck.specs.Content.{deck_of}
 use Rattle.eval.specs.Lent.{label_width}
 use Rattle.eval.specs.Lists.{range}
+use Rattle.eval.proofs.Clash.{both_ways}
 use Rattle.build.specs.declared.bounds.Bounds.{Bounds}
 use Rattle.build.specs.declared.tally.Tally.{Tally}
 use Rattle.build.specs.declared.tally.Step.{Step}
@@ -27,7 +28,7 @@ use Rattle.atoms.specs.Rows.{rows_of}
 use Rattle.build.specs.Intern.{interned, Placed, Held}
 use Rattle.atoms.specs.Reasons.{noted, counted, bound_tripped}
 use Rattle.build.specs.Push.{State, edge, push_edge, start, quiet, Left, Room}
-use Rattle.build.specs.Model.{Model, note_state, trip_state, note_in, trip_in, reach, Buffers, lent, begun, top, among, Prepared, Built}
+use Rattle.build.specs.Model.{Model, note_state, trip_state, note_in, trip_in, reach, linked, Buffers, lent, begun, top, among, Prepared, Built}
 use Rattle.atoms.proofs.RowLaws.{length-rows}
 use Rattle.build.proofs.InternLaws.{held_start, held_rows, held-length, held_on, held-intern, interned-grows}
 use Rattle.build.proofs.PushLaws.{left-same, left-trans, left-start, left-quiet, left-tripped, left-room, noted-length}
@@ -79,7 +80,7 @@ module _ (limit : ℕ) (was : List (List ℕ)) (log : List ℕ) (t : Tally) (R :
       }
 
   -- one that ends building
-  left-trip : Left limit was log t was (noted log t.reasons x) (record { tally = record { elements = t.elements; edges = t.edges; reasons = counted t.reasons }; tripped = true }) (trip_state x (start was log t))
+  pub left-trip : Left limit was log t was (noted log t.reasons x) (record { tally = record { elements = t.elements; edges = t.edges; reasons = counted t.reasons }; tripped = true }) (trip_state x (start was log t))
   left-trip =
       let L = left-same limit was log t R in
       record {
@@ -233,6 +234,28 @@ module _ {s : List ℕ} {B : Bounds} {b : Buffers} {t : Tally} {floor label : Li
           few = λ w. omega (arith, k, h, top-bound (deck_of s) B);
           wide = wide';
         })
+
+    -- the same by either
+    pub reach-linked : {label' : List ℕ} → length label' ≡ label_width (deck_of s) → (r x : ℕ) → {E' : List (List ℕ)} {log' : List ℕ} {z : Step}
+        → Left B.max_edges b.edges b.log (among n t) E' log' z (linked B n (edge r x e) (start b.edges b.log (among n t)))
+        → Built (deck_of s) B b t (lent L' E' log') label' z (reach B r x l (begun (deck_of s) b t))
+    unfolding reach
+    reach-linked wide' r x {E'} {log'} {z} L =
+        ⊎_elim
+        (λ (h : B.max_elements < n).
+        let M = rw (lt-ltb B.max_elements n h) at L in
+        let k : z.tally.elements ≡ n = M.elements in
+        rw (lt-ltb B.max_elements (length (interned (rows_of (label_width (deck_of s)) t.elements b.labels) l)) (omega (arith, I.count)))
+        (record {
+          held = rw k now-held;
+          left = rw k (left-among M n);
+          more = omega (arith, k, grown.0);
+          most = omega (arith, k, P.few, grown.1);
+          few = λ w. absurd (both_ways (sym w ∙ sym (left-tripped M)) refl);
+          wide = wide';
+        }))
+        (λ (h : n ≤ B.max_elements). reach-link wide' r x h (rw (le-ltb B.max_elements n h) at L))
+        (lt-or-le B.max_elements n)
 
 -- ---- a walk of steps that build: `On` of proofs/WalkLaws.antt
 abbrev pub OnModel : {A : Type 0} → Deck → Bounds → (A → Model → Model) → List A → List A → Buffers → Tally → Buffers → List ℕ → Tally → Type 0

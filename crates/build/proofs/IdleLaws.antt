@@ -4,7 +4,7 @@
 --     skipped-idle                  or by the table of quiet walks
 --     builds-and, …, builds-other   whether a concept that was read goes further
 use Prim.Native.Nat.{ℕ, ◌≤◌}
-use mathlib.Core.Bool.{Bool, true, false, cond}
+use mathlib.Core.Bool.{Bool, true, false, cond, not}
 use mathlib.Core.Path.{◌≡◌, refl, sym, ap, ◌∙◌}
 use mathlib.Core.List.{List, [], ◌∷◌}
 use mathlib.Core.Logic.{⊎_elim}
@@ -16,7 +16,7 @@ use Rattle.deck.specs.declared.concepts.ConceptExpr.{ConceptExpr}
 use Rattle.deck.specs.declared.numbers.ConceptId.{ConceptId}
 use Rattle.deck.specs.declared.numbers.RoleWord.{RoleWord}
 use Rattle.deck.specs.declared.rows.Span.{Span}
-use Rattle.deck.specs.Numbers.{inverse_word, role_number}
+use Rattle.deck.specs.Numbers.{inverse_word}
 use Rattle.deck.specs.Deck.{Deck, Concept, Role, concept_at}
 use Rattle.deck.specs.Content.{IsAccepted, deck_of}
 use Rattle.deck.specs.Reads.{ConceptRead, expr_of}
@@ -82,12 +82,12 @@ module _ (s : List ℕ) (A : IsAccepted s) (c : ℕ) {expr : ConceptExpr} (R : C
   pub builds-and : (l : Span) → expr ≡ ConceptExpr.And l → true ≡ builds_at (deck_of s) c
   builds-and l p = builds-read _ p
 
-  module _ (w : RoleWord) (k : ConceptId) (p : expr ≡ ConceptExpr.Some w k) where
-    pub builds-inverse : inverse_word w.0 ≡ true → false ≡ builds_at (deck_of s) c
-    builds-inverse h = sym (ap (λ (b : Bool). builds (Concept.Some (cond b (Role.Inverse (role_number w.0)) (Role.Named (role_number w.0))) k.0)) h) ∙ builds-read _ p
-
-    pub builds-named : inverse_word w.0 ≡ false → true ≡ builds_at (deck_of s) c
-    builds-named h = sym (ap (λ (b : Bool). builds (Concept.Some (cond b (Role.Inverse (role_number w.0)) (Role.Named (role_number w.0))) k.0)) h) ∙ builds-read _ p
+  pub builds-some : (w : RoleWord) (k : ConceptId) → expr ≡ ConceptExpr.Some w k → {b : Bool} → b ≡ inverse_word w.0 → not b ≡ builds_at (deck_of s) c
+  builds-some w k p e = ap not e ∙ by-word (inverse_word w.0) refl ∙ builds-read _ p
+    where
+      by-word : (b : Bool) → inverse_word w.0 ≡ b → not b ≡ builds (expr_of s (ConceptExpr.Some w k))
+      by-word true h = rw h refl
+      by-word false h = rw h refl
 
   pub builds-other : OneOf (0 ∷ 1 ∷ 2 ∷ 3 ∷ 4 ∷ 5 ∷ 7 ∷ 9 ∷ 10 ∷ 11 ∷ []) (tag_of the_type expr) → false ≡ builds_at (deck_of s) c
   builds-other h = not-builds s expr h ∙ builds-read expr refl

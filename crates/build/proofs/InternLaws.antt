@@ -5,7 +5,11 @@ use mathlib.Core.List.Memᴰ
 use mathlib.Core.List.{List, [], ◌∷◌, ◌++◌, append_assoc, append-nil, Memᴰ}
 use mathlib.Core.Logic.{◌⊎◌, inl, inr}
 use Rattle.deck.proofs.CaseLaws.{lt-or-le}
-use Rattle.atoms.proofs.LabelLaws.{same-eq, row_word}
+use Rattle.std.specs.Prelude.{Decides}
+use Rattle.std.specs.Prelude.{Option, None, Some, IfSome}
+use Rattle.deck.specs.declared.numbers.Element.{Element}
+use Rattle.eval.proofs.Clash.{both_ways}
+use Rattle.atoms.proofs.LabelLaws.{same-eq, same_refl, not_so, row_word}
 use Prim.Native.Nat.{ℕ, zero, suc, ◌+◌, ◌*◌, ◌/◌, ◌%◌, ◌≤◌, ◌<◌}
 use native.Mathlib.Omega.{arith}
 use lib.ListN.{length, get_or, length-append, get_or-append}
@@ -16,7 +20,7 @@ use borrow.Author.Tests.{lt-ltb, le-ltb}
 use Rattle.eval.specs.Lent.{bit, member_in}
 use Rattle.atoms.specs.Label.{same_label, label_has}
 use Rattle.atoms.specs.Rows.{put, flat, row_at, rows_of, Wide, none}
-use Rattle.build.specs.Intern.{index_of, interned, Placed, Held}
+use Rattle.build.specs.Intern.{index_of, interned, Found, Placed, Held}
 use Rattle.atoms.proofs.RowLaws.{wide-append, length-rows, rows_at, rows-wide, flat_rows, length-flat, put_self, put-put, put-nil, length-put, rows-put, appended}
 
 -- the first row that is the label
@@ -45,6 +49,34 @@ module _ (w n : ℕ) (buf l : List ℕ) where
   row-none nay =
       index-none (rows_of w n buf) l (λ (k : ℕ) (b : k < length (rows_of w n buf)). let b' : k < n = omega (arith, b, length-rows w n buf) in rw (rows_at w n buf k b') (nay k b'))
       ∙ length-rows w n buf
+
+-- ---- a search among the labels
+-- `==` on two slices says the same
+pub same-by : {b : Bool} {x l : List ℕ} → Decides b (x ≡ l) → b ≡ same_label x l
+same-by {b = true} {x} {l} d = rw (d.0 refl) (sym (same_refl l))
+same-by {b = false} {x} {l} d = sym (not_so (same_label x l) (λ e. both_ways (d.1 (same-eq x l e)) refl))
+
+-- the element, or the number of labels
+abbrev pub or_all : ℕ → Option Element → ℕ
+or_all n None = n
+or_all n (Some e) = e.0
+
+pub found-of : (ls : List (List ℕ)) (l : List ℕ) (r : Option Element) → or_all (length ls) r ≡ index_of ls l → IfSome r (λ e. e.0 < length ls) → Found ls l r
+found-of ls l None e b = record { some = tt; none = sym e }
+found-of ls l (Some x) e b = record { some = (e, b); none = tt }
+
+pub found-some : {ls : List (List ℕ)} {l : List ℕ} {r : Option Element} → Found ls l r → {e : Element} → r ≡ Some e → (e.0 ≡ index_of ls l) × (e.0 < length ls)
+found-some F q = (rw q at F).some
+
+pub found-none : {ls : List (List ℕ)} {l : List ℕ} {r : Option Element} → Found ls l r → r ≡ None → index_of ls l ≡ length ls
+found-none F q = (rw q at F).none
+
+module _ (w n : ℕ) (buf l : List ℕ) where
+  pub found-row : (e : ℕ) → e < n → ((k : ℕ) → k < e → same_label (row_at w buf (k * w)) l ≡ false) → same_label (row_at w buf (e * w)) l ≡ true → Found (rows_of w n buf) l (Some (record { 0 = e }))
+  found-row e h nay here = record { some = (sym (row-found w n buf l e h nay here), omega (arith, h, length-rows w n buf)); none = tt }
+
+  pub found-no-row : ((k : ℕ) → k < n → same_label (row_at w buf (k * w)) l ≡ false) → Found (rows_of w n buf) l None
+  found-no-row nay = record { some = tt; none = row-none w n buf l nay ∙ sym (length-rows w n buf) }
 
 pub interned-known : (ls : List (List ℕ)) (l : List ℕ) → index_of ls l < length ls → interned ls l ≡ ls
 unfolding interned

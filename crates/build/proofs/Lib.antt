@@ -3,6 +3,7 @@ pub mod PrintLaws
 pub mod SeedLaws
 pub mod PushLaws
 pub mod BuildLaws
+pub mod BuildingLaws
 pub mod TailLaws
 pub mod ExistsLaws
 pub mod GrowLaws

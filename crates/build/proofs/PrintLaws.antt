@@ -15,11 +15,13 @@ use Rattle.deck.proofs.CaseLaws.{lt-or-le}
 use Rattle.eval.proofs.Clash.{both_ways}
 use Rattle.atoms.specs.Label.{same_label}
 use Rattle.atoms.specs.Rows.{row_at, rows_of}
-use Rattle.build.specs.Intern.{index_of, interned}
+use Rattle.std.specs.Prelude.{Option, None, Some, IfSome}
+use Rattle.deck.specs.declared.numbers.Element.{Element}
+use Rattle.build.specs.Intern.{index_of, interned, Found}
 use Rattle.build.specs.Prints.{mixed, print_to, slot_of, Last, Chained}
 use Rattle.atoms.proofs.LabelLaws.{not_so, same-eq}
 use Rattle.atoms.proofs.RowLaws.{length-rows, rows_at, rows_more}
-use Rattle.build.proofs.InternLaws.{index-found, index-none, interned-known, interned-new}
+use Rattle.build.proofs.InternLaws.{index-found, index-none, interned-known, interned-new, or_all, found-of}
 
 -- ---- the fingerprint, word by word
 module _ (l : List ℕ) where
@@ -115,6 +117,31 @@ sought-done size ls l found s =
     let e : found ≡ length ls = omega (arith, b, s.most) in
     e ∙ sym (index-none ls l (λ (k : ℕ) (u : k < length ls). s.nay k (omega arith) (omega (arith, u, b)))))
     (lt-or-le found (length ls))
+
+-- ---- the same of what the walk has found so far
+pub record Seeking (size : ℕ) (ls : List (List ℕ)) (l : List ℕ) (p : ℕ) (r : Option Element) : Type 0 where
+  pub sought : Sought size ls l p (or_all (length ls) r)
+  pub below : IfSome r (λ e. e.0 < length ls)
+
+pub seeking-done : {size : ℕ} {ls : List (List ℕ)} {l : List ℕ} {r : Option Element} → Seeking size ls l 0 r → Found ls l r
+seeking-done {size} {ls} {l} {r} S = found-of ls l r (sought-done size ls l (or_all (length ls) r) S.sought) S.below
+
+module _ (w n : ℕ) (buf l heads links : List ℕ) (c : Chained (rows_of w n buf) heads links) where
+  pub seeking-start : (h : ℕ) → (h ≡ slot_of (length heads) l) × (h < length heads) → Seeking (length heads) (rows_of w n buf) l (get_or heads h 0) None
+  seeking-start h s = record { sought = sought-start c l h _ s.0 s.1 refl; below = tt }
+
+  module _ (p : ℕ) (r : Option Element) (S : Seeking (length heads) (rows_of w n buf) l p r) (e : ℕ) (at : e + 1 ≡ p) where
+    pub seeking-row : e < n
+    seeking-row = sought-row w n buf l (length heads) p _ e S.sought at
+
+    pub seeking-here : same_label (row_at w buf (e * w)) l ≡ true → Seeking (length heads) (rows_of w n buf) l (get_or links e 0) (Some (record { 0 = e }))
+    seeking-here y = record { sought = sought-here-row w n buf l heads links c p _ e S.sought at y; below = omega (arith, seeking-row, length-rows w n buf) }
+
+    pub seeking-on : same_label (row_at w buf (e * w)) l ≡ false → Seeking (length heads) (rows_of w n buf) l (get_or links e 0) r
+    seeking-on y = record { sought = sought-on-row w n buf l heads links c p _ e S.sought at y; below = S.below }
+
+    pub seeking-fall : get_or links e 0 < p
+    seeking-fall = sought-fall c l p _ e S.sought at
 
 -- ---- the table
 chained-none : (heads links : List ℕ) → 0 < length heads → ((h : ℕ) → h < length heads → get_or heads h 0 ≡ 0) → Chained [] heads links

@@ -4,8 +4,8 @@ use mathlib.Core.Path.{◌≡◌, refl, sym, ap, ◌∙◌}
 use mathlib.Core.Bool.{Bool, true, false, ◌||◌}
 use mathlib.Core.List.{List, [], ◌∷◌, map, flat_map, Memᴰ as Member}
 use mathlib.Core.Logic.{⊎_elim}
-use Prim.Native.Nat.{ℕ, zero, suc, ◌+◌, ◌≤◌, ◌<◌}
-use native.Mathlib.Nat.{eq-or-lt_of_le, le_of_suc-le-suc}
+use Prim.Native.Nat.{ℕ, zero, suc, ◌+◌, ◌*◌, ◌≤◌, ◌<◌}
+use native.Mathlib.Nat.{mul-le-mul_right, eq-or-lt_of_le, le_of_suc-le-suc}
 use native.Mathlib.Numerals.{add-one}
 use native.Mathlib.Omega.{arith}
 use lib.ListN.{length, get_or}
@@ -26,7 +26,7 @@ use Rattle.build.specs.Seed.{names, ends_of, Named, is_seeded, row_label, seeds,
 use Rattle.atoms.proofs.LabelLaws.{length-label-of}
 use Rattle.atoms.proofs.MemberLaws.{has-label}
 use Rattle.atoms.proofs.FloorLaws.{floor-off, length-floored}
-use Rattle.build.proofs.InternLaws.{by_cond, Extends, extends-length, extends-at, member-label, interned-wide, interned-grows, held_none, held-intern, held_rows, interned-keeps, interned-has}
+use Rattle.build.proofs.InternLaws.{by_cond, Extends, extends-length, extends-at, member-label, interned-wide, interned-grows, held_none, held-length, held-intern, held_rows, interned-keeps, interned-has}
 
 -- ---- which classes
 or-both : (a b c : Bool) → (a || (b || c)) ≡ ((a || b) || c)
@@ -139,6 +139,10 @@ module _ (D : Deck) (floor : List ℕ) where
 
     pub held-few : (b : List ℕ) (n k : ℕ) → Held (label_width D) buf b n (seeds D floor k) → n ≤ k
     held-few b n k h = omega (arith, h.count, seeds-few k)
+
+    -- the buffer keeps its length
+    pub held-size : (b : List ℕ) (n k : ℕ) → Held (label_width D) buf b n (seeds D floor k) → k ≤ class_count D → (class_count D + 1) * label_width D ≤ length buf → length b ≡ length buf
+    held-size b n k h l r = held-length h (omega (arith, r, mul-le-mul_right {m = n} {n = class_count D + 1} (label_width D) (omega (arith, held-few b n k h))))
 
   -- the table of the loop
   module _ (buf b heads links : List ℕ) (n k : ℕ) (h : Held (label_width D) buf b n (seeds D floor k)) where

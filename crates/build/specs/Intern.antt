@@ -1,5 +1,6 @@
 -- Interning (`intern`): "equal labels are one element".
-use Rattle.std.specs.Prelude.{ℕ, zero, suc, ◌≡◌, cond, List, [], ◌∷◌, ◌++◌, length, ltb}
+use Rattle.std.specs.Prelude.{ℕ, zero, suc, ◌≡◌, ◌<◌, cond, List, [], ◌∷◌, ◌++◌, length, ltb, Option, IfSome, IfNone}
+use Rattle.deck.specs.declared.numbers.Element.{Element}
 use Rattle.atoms.specs.Label.{same_label}
 use Rattle.atoms.specs.Rows.{put, flat, Wide}
 
@@ -7,6 +8,11 @@ use Rattle.atoms.specs.Rows.{put, flat, Wide}
 unfoldable pub index_of : List (List ℕ) → List ℕ → ℕ
 index_of [] l = zero
 index_of (x ∷ xs) l = cond (same_label x l) zero (suc (index_of xs l))
+
+-- what a search for l among the labels hands back
+pub record Found (ls : List (List ℕ)) (l : List ℕ) (r : Option Element) : Type 0 where
+  pub some : IfSome r (λ e. (e.0 ≡ index_of ls l) × (e.0 < length ls))
+  pub none : IfNone r (index_of ls l ≡ length ls)
 
 -- the labels with l among them, appended where it is new
 unfoldable pub interned : List (List ℕ) → List ℕ → List (List ℕ)

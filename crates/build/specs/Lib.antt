@@ -5,3 +5,4 @@ pub mod Push
 pub mod Model
 pub mod Exists
 pub mod Quiet
+pub mod Building

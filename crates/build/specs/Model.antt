@@ -3,6 +3,7 @@ use Rattle.std.specs.Prelude.{ℕ, ◌+◌, ◌*◌, ◌≤◌, ◌<◌, ◌≡�
 use Rattle.deck.specs.Deck.{Deck, class_count}
 use Rattle.deck.specs.Content.{IsAccepted, deck_of}
 use Rattle.eval.specs.Lent.{label_width}
+use Rattle.eval.specs.declared.edges.Edge.{Edge}
 use Rattle.build.specs.declared.bounds.Bounds.{Bounds}
 use Rattle.build.specs.declared.tally.Tally.{Tally}
 use Rattle.build.specs.declared.tally.Step.{Step}
@@ -33,13 +34,17 @@ note_in x m = with_state m (note_state x m.state)
 abbrev pub trip_in : Reason → Model → Model
 trip_in x m = with_state m (trip_state x m.state)
 
+-- the bound on elements, of which there are n, and the edge e where it does not trip
+abbrev pub linked : Bounds → ℕ → Edge → State → State
+linked B n e s = cond (ltb B.max_elements n) (trip_state (bound_tripped 0 B.max_elements) s) (push_edge B.max_edges e s)
+
 -- "The label is interned, the edge added"; "The element bound is tested after every interning in building, of a known label too"
 unfoldable pub reach : Bounds → ℕ → ℕ → List ℕ → Model → Model
 reach B r x l m =
     let ls = interned m.labels l in
     record {
       labels = ls;
-      state = cond (ltb B.max_elements (length ls)) (trip_state (bound_tripped 0 B.max_elements) m.state) (push_edge B.max_edges (edge r x (index_of m.labels l)) m.state);
+      state = linked B (length ls) (edge r x (index_of m.labels l)) m.state;
     }
 
 -- ---- the buffers

@@ -1,66 +1,26 @@
 // The labels of the elements, one after the other from the start of the lent buffer on, each of as many words as the label
-// in the making has. Equal labels are one element. Three leaves know how labels lie: `find` here, `store`, which appends one,
+// in the making has. Equal labels are one element. Three leaves know how labels lie: `row` here, `store`, which appends one,
 // and eval's `has_class`.
-ghost use Rattle.std.specs.Prelude.{◌≡◌, ◌+◌, ◌*◌, ◌<◌, ◌≤◌, length};
+ghost use Rattle.std.specs.Prelude.{◌≡◌, true, ◌+◌, ◌*◌, ◌<◌, ◌≤◌, length, IfSome};
 ghost use Rattle.std.proofs.Math.Seq.{paste};
 ghost use Rattle.atoms.specs.Rows.{row_at, rows_of};
-ghost use Rattle.atoms.specs.Label.{same_label};
-ghost use Rattle.build.specs.Intern.{index_of, Placed};
-ghost use Rattle.deck.specs.Content.{IsAccepted, deck_of};
-ghost use Rattle.eval.specs.Lent.{label_width};
-ghost use Rattle.atoms.specs.Floor.{floored};
+ghost use Rattle.build.specs.Intern.{index_of, Found};
+ghost use Rattle.build.specs.Building.{HasPlace, Interns, label_in, model_of};
 
+use crate::building::Build;
 use atoms::floor::apply_floor;
 use deck::numbers::Element;
 
-// The element of a label, and how many there are now.
-#[derive(Clone, Copy)]
-pub struct Interned {
-    pub element: Element,
-    pub elements: u32,
-}
-
-// Whether the words from `at` on are the label.
-pub fn same_label(labels: &[u64], at: usize, label: &[u64]) -> bool
-    requires { at + length label.now ≤ length labels.now }
-    ensures { result ≡ same_label (row_at (length label.now) labels.now at) label.now }
+// The last word of the label that has a class, where labels mostly differ.
+fn last_word(label: &[u64]) -> Option<usize>
+    ensures { IfSome result (λ w. w < length label.now) }
 {
-    let mut i = 0;
-    while i < label.len() {
-        if labels[at + i] == label[i] {
-            i += 1;
-        } else {
-            return false;
-        }
-    }
-    true
-}
-
-// The last word of the label that has a class, where labels mostly differ; their number if none has.
-fn last_word(label: &[u64]) -> usize
-    ensures { result ≤ length label.now }
-{
-    let mut i = label.len();
-    while 0 < i {
-        i -= 1;
+    for i in (0..label.len()).rev() {
         if label[i] != 0 {
-            return i;
+            return Some(i);
         }
     }
-    label.len()
-}
-
-// The same as `same_label`, word w looked at first.
-fn is_row(labels: &[u64], at: usize, label: &[u64], w: usize) -> bool
-    requires { at + length label.now ≤ length labels.now }
-    ensures { result ≡ same_label (row_at (length label.now) labels.now at) label.now }
-{
-    if w < label.len() {
-        if labels[at + w] != label[w] {
-            return false;
-        }
-    }
-    same_label(labels, at, label)
+    None
 }
 
 // Where row e of w words starts, in a table of n rows.
@@ -71,74 +31,85 @@ pub fn row_start(e: usize, n: usize, w: usize, room: usize) -> usize
     e * w
 }
 
-// The element whose label it is, or their number.
-fn find(labels: &[u64], elements: u32, label: &[u64]) -> u32
-    requires { elements * length label.now ≤ length labels.now }
-    ensures { result ≡ index_of (rows_of (length label.now) elements labels.now) label.now }
+// The label of element e, of n elements with w words each.
+pub fn row(labels: &[u64], e: u32, n: u32, w: usize) -> &[u64]
+    requires { (e < n) × (n * w ≤ length labels.now) }
+    ensures words { result.now ≡ row_at w labels.now (e * w) }
+    ensures size { length result.now ≡ w }
 {
-    let w = last_word(label);
-    let mut e = 0;
-    while e < elements {
-        let at = row_start(e as usize, elements as usize, label.len(), labels.len());
-        if is_row(labels, at, label, w) {
-            return e;
-        }
-        e += 1;
+    let at = row_start(e as usize, n as usize, w, labels.len());
+    &labels[at..at + w]
+}
+
+// Whether two labels of one width differ in their word `last`, if there is one.
+fn differs(a: &[u64], b: &[u64], last: Option<usize>) -> bool
+    requires same { length a.now ≡ length b.now }
+    requires last { IfSome last (λ w. w < length b.now) }
+    ensures { result ≡ true → a.now ≡ b.now → ⊥ }
+{
+    match last {
+        Some(w) => a[w] != b[w],
+        None => false,
     }
-    elements
+}
+
+// The element whose label it is, if there is one.
+fn find(labels: &[u64], elements: u32, label: &[u64]) -> Option<Element>
+    requires { elements * length label.now ≤ length labels.now }
+    ensures { Found (rows_of (length label.now) elements labels.now) label.now result }
+{
+    let last = last_word(label);
+    for e in 0..elements {
+        let other = row(labels, e, elements, label.len());
+        if differs(other, label, last) {
+            continue;
+        }
+        if other == label {
+            return Some(Element(e));
+        }
+    }
+    None
 }
 
 // The words from `at` on become the label.
-pub fn store(labels: &mut [u64], at: usize, label: &[u64])
+fn store(labels: &mut [u64], at: usize, label: &[u64])
     requires { at + length label.now ≤ length labels.old }
     ensures { labels.new ≡ paste labels.old at label.now (length label.now) }
 {
-    let mut i = 0;
-    while i < label.len() {
-        labels[at + i] = label[i];
-        i += 1;
-    }
+    let end = at + label.len();
+    labels[at..end].copy_from_slice(label);
 }
 
-// The element of a label as it stands, which is appended where it is not there yet.
-fn place(labels: &mut [u64], elements: u32, label: &[u64]) -> Interned
-    requires label_in_bounds { (elements + 1) * length label.now ≤ length labels.old }
-    requires elements_bound { elements < 65536 }
-    ensures { Placed labels.old labels.new (rows_of (length label.now) elements labels.old) label.now result.element.0 result.elements }
-{
-    let e = find(labels, elements, label);
-    if e < elements {
-        return Interned {
-            element: Element(e),
-            elements,
-        };
+impl Build<'_, '_> {
+    // The label in the making, which is new, is appended; its element.
+    pub(crate) fn append_label(&mut self) -> Element
+        requires place { HasPlace self.old }
+        requires new { index_of (model_of self.old).labels self.old.label.now ≡ length (model_of self.old).labels }
+        ensures { Interns self.old self.new self.old.label.now result.0 }
+    {
+        let count = self.tally.elements;
+        let many = count as usize;
+        let width = self.label.len();
+        let room = self.labels.len();
+        let at = row_start(many, many + 1, width, room);
+        let label = &mut *self.label;
+        store(self.labels, at, label);
+        self.tally.elements = count + 1;
+        Element(count)
     }
-    let many = elements as usize;
-    let at = row_start(many, many + 1, label.len(), labels.len());
-    store(labels, at, label);
-    Interned {
-        element: Element(elements),
-        elements: elements + 1,
-    }
-}
 
-// The element of a label, which takes the floor in first where it has no real class.
-pub fn intern(
-    deck: &[u8],
-    floor: &[u64],
-    label: &mut [u64],
-    labels: &mut [u64],
-    elements: u32,
-) -> Interned
-    requires accepted { IsAccepted deck.now }
-    requires floor_len { length floor.now ≡ label_width (deck_of deck.now) }
-    requires label_len { length label.old ≡ label_width (deck_of deck.now) }
-    requires deck_in_bounds { (elements + 1) * label_width (deck_of deck.now) ≤ length labels.old }
-    requires elements_bound { elements < 65536 }
-    ensures placed { Placed labels.old labels.new (rows_of (label_width (deck_of deck.now)) elements labels.old)
-        (floored (deck_of deck.now) floor.now label.old) result.element.0 result.elements }
-    ensures label_after { label.new ≡ floored (deck_of deck.now) floor.now label.old }
-{
-    apply_floor(deck, floor, label);
-    place(labels, elements, label)
+    // The element of the label in the making, which takes the floor in first where it has no real class.
+    pub fn intern(&mut self) -> Element
+        requires { HasPlace self.old }
+        ensures { Interns self.old self.new (label_in self.old) result.0 }
+    {
+        apply_floor(self.plan.deck.bytes, self.plan.floor, self.label);
+        let count = self.tally.elements;
+        let labels = &mut *self.labels;
+        let label = &mut *self.label;
+        match find(labels, count, label) {
+            Some(e) => e,
+            None => self.append_label(),
+        }
+    }
 }

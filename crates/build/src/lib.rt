@@ -2,9 +2,11 @@
 #![tactic(auto)]
 
 pub mod bounds;
+pub mod building;
 pub mod exists;
 pub mod idle;
 pub mod intern;
+pub mod plan;
 pub mod prints;
 pub mod push;
 pub mod quiet;

@@ -1,18 +1,15 @@
-// Walks of a concept from an element that changed nothing, remembered in a lent table of words until the structure has grown. A table of fewer than 16,384 words remembers none.
+// Walks of a concept from an element that changed nothing, remembered in a lent table of words until the structure has grown. A table of fewer than 16,384 words remembers none; an `Option` of a table is no plainer, as a loop would have to lend out what it holds anew for each call.
 ghost use Rattle.std.specs.Prelude.{◌≡◌, true, ◌<◌};
 ghost use Rattle.build.specs.Quiet.{size_of, word_of, Worded, Known, Kept};
 
-use crate::tally::{Tally, unchanged};
+use crate::tally::Tally;
 use deck::numbers::{ConceptId, Element};
 
 // Is there a word for concept o at element e?
 fn has_word(o: ConceptId, e: Element) -> bool
     ensures { result ≡ true → Worded o.0 e.0 }
 {
-    if 16384 <= o.0 {
-        return false;
-    }
-    e.0 < 65536
+    o.0 < 16384 && e.0 < 65536
 }
 
 // The word: the size of the structure and one, then the element in 16 bits, then the concept in 14.
@@ -36,31 +33,21 @@ fn place(o: ConceptId, e: Element) -> usize
 pub fn is_quiet(memo: &[u64], t: Tally, o: ConceptId, e: Element) -> bool
     ensures { result ≡ true → Known memo.now t o.0 e.0 }
 {
-    if memo.len() < 16384 {
+    if memo.len() < 16384 || !has_word(o, e) {
         return false;
     }
-    if !has_word(o, e) {
-        return false;
-    }
-    let at = place(o, e);
-    let w = word(t, o, e);
-    memo[at] == w
+    memo[place(o, e)] == word(t, o, e)
 }
 
 // Remembers the walk of concept o from element e, which took the tally from t to u, where it changed nothing.
 pub fn keep_quiet(memo: &mut [u64], t: Tally, u: Tally, o: ConceptId, e: Element)
     ensures { Kept memo.old memo.new t u o.0 e.0 }
 {
-    if memo.len() < 16384 {
+    if memo.len() < 16384 || !has_word(o, e) {
         return;
     }
-    if !unchanged(t, u) {
+    if t != u {
         return;
     }
-    if !has_word(o, e) {
-        return;
-    }
-    let at = place(o, e);
-    let w = word(u, o, e);
-    memo[at] = w;
+    memo[place(o, e)] = word(u, o, e);
 }

@@ -1,21 +1,56 @@
 // A label is interned, and the edge to its element added: what both expansions do with a target.
-ghost use Rattle.std.specs.Prelude.{◌≡◌};
+ghost use Rattle.std.specs.Prelude.{◌≡◌, is_err, IfOk};
 ghost use Rattle.deck.specs.Content.{deck_of};
 ghost use Rattle.eval.specs.Lent.{label_width};
 ghost use Rattle.atoms.specs.Rows.{rows_of};
 ghost use Rattle.build.specs.Intern.{index_of};
-ghost use Rattle.build.specs.Push.{Tail};
+ghost use Rattle.build.specs.Push.{Tail, edge};
 ghost use Rattle.atoms.specs.Floor.{floored};
 ghost use Rattle.build.specs.Model as spec;
 ghost use Rattle.build.specs.Model.{lent, begun, Prepared, Built};
+ghost use Rattle.build.specs.Building.{HasRoom, Ready, Pushed, Holds, label_in, model_of, state_of};
 
 use crate::bounds::Bounds;
-use crate::intern::intern;
-use crate::push::push_edge;
+use crate::building::{Build, Tripped};
+use crate::plan::Plan;
 use crate::tally::{Step, Tally};
-use atoms::reasons::{Reason, note};
+use atoms::reasons::Reason;
+use deck::Deck;
 use deck::numbers::{Element, RoleId};
 use eval::edges::Edge;
+
+impl Build<'_, '_> {
+    // The edge of the role to an element; the element bound is tested before. The edges below `since` leave other elements.
+    pub fn link(
+        &mut self,
+        role: RoleId,
+        from: Element,
+        to: Element,
+        since: u32,
+    ) -> Result<(), Tripped>
+        requires room { HasRoom self.old }
+        requires tail { Tail self.old.edges.now self.old.tally.edges since from.0 }
+        ensures { Pushed self.old self.new (is_err result) (spec.linked self.old.plan.bounds self.old.tally.elements (edge role.0 from.0 to.0) (state_of self.old)) }
+    {
+        if self.plan.bounds.max_elements < self.tally.elements {
+            self.note(Reason::bound_tripped(0, self.plan.bounds.max_elements));
+            return Err(Tripped);
+        }
+        self.push_edge(Edge { role, from, to }, since)
+    }
+
+    // The element of the label in the making, and the edge of the role to it.
+    pub fn reach(&mut self, role: RoleId, from: Element, since: u32) -> Result<Element, Tripped>
+        requires ready { Ready self.old }
+        requires tail { Tail self.old.edges.now self.old.tally.edges since from.0 }
+        ensures holds { Holds self.old self.new (is_err result) (spec.reach self.old.plan.bounds role.0 from.0 (label_in self.old) (model_of self.old)) }
+        ensures place { IfOk result (λ e. e.0 ≡ index_of (model_of self.old).labels (label_in self.old)) }
+    {
+        let to = self.intern();
+        self.link(role, from, to, since)?;
+        Ok(to)
+    }
+}
 
 // The step that led to an element.
 #[derive(Clone, Copy)]
@@ -24,15 +59,15 @@ pub struct Arrival {
     pub element: Element,
 }
 
-// The element of the label in the making, and the edge of the role to it; the element bound is tested in between. The edges below `since` leave other elements.
-pub fn reach(
-    deck: &[u8],
+// The same over what is lent: until all crates above take a `Build`.
+pub fn reach<'p, 'a>(
+    deck: &'p [u8],
     bounds: Bounds,
-    floor: &[u64],
-    label: &mut [u64],
-    labels: &mut [u64],
-    edges: &mut [[u32; 3]],
-    log: &mut [u32],
+    floor: &'p [u64],
+    label: &'a mut [u64],
+    labels: &'a mut [u64],
+    edges: &'a mut [[u32; 3]],
+    log: &'a mut [u32],
     t: Tally,
     role: RoleId,
     from: Element,
@@ -44,23 +79,24 @@ pub fn reach(
         (spec.reach bounds role.0 from.0 (floored (deck_of deck.now) floor.now label.old) (begun (deck_of deck.now) (lent labels.old edges.old log.old) t)) }
     ensures place { result.element.0 ≡ index_of (rows_of (label_width (deck_of deck.now)) t.elements labels.old) (floored (deck_of deck.now) floor.now label.old) }
 {
-    let placed = intern(deck, floor, label, labels, t.elements);
-    let element = placed.element;
-    let elements = placed.elements;
-    let held = t.with_elements(elements);
-    if bounds.max_elements < elements {
-        let reason = Reason::bound_tripped(0, bounds.max_elements);
-        let reasons = note(log, t.reasons, reason);
-        return Arrival {
-            step: Step::tripping(held.with_reasons(reasons)),
-            element,
-        };
-    }
-    let e = Edge {
-        role,
-        from,
-        to: element,
+    let plan = Plan {
+        deck: Deck { bytes: deck },
+        bounds,
+        floor,
     };
-    let step = push_edge(bounds.max_edges, edges, log, held, e, since);
+    let mut b = Build {
+        plan,
+        label,
+        labels,
+        edges,
+        log,
+        tally: t,
+    };
+    let element = b.intern();
+    let tripped = b.link(role, from, element, since).is_err();
+    let step = Step {
+        tally: b.tally,
+        tripped,
+    };
     Arrival { step, element }
 }

@@ -4,189 +4,166 @@ ghost use mathlib.Core.List.{[], flat_map};
 ghost use Rattle.deck.specs.Content.{IsAccepted, deck_of};
 ghost use Rattle.deck.specs.Deck.{class_count, fact_count, fact_at};
 ghost use Rattle.eval.specs.Lent.{label_width};
-ghost use Rattle.atoms.specs.Rows.{rows_of};
 ghost use Rattle.atoms.specs.Label.{insert_all, label_of};
-ghost use Rattle.build.specs.Intern.{interned, Placed};
+ghost use Rattle.build.specs.Intern.{interned};
 ghost use Rattle.build.specs.Prints.{Chained};
 ghost use Rattle.build.specs.Seed.{ends_of, Named, is_seeded, row_label, Seeded};
+ghost use Rattle.build.specs.Building.{HasPlace, Interns, Unseeded, Seeds, deck_in, model_of};
 
-use crate::intern::Interned;
-use crate::prints::intern_by;
+use crate::bounds::Bounds;
+use crate::building::Build;
+use crate::plan::Plan;
+use crate::tally::Tally;
 use atoms::labels;
 use atoms::subsumers::load_row;
-use deck::classes::{class_count, is_unsatisfiable, real_count};
-use deck::facts::{fact_at, fact_count};
-use deck::numbers::ClassId;
+use deck::Deck;
+use deck::numbers::{ClassId, Element};
 
 // The classes of a fact become bits.
-fn insert_fact(deck: &[u8], fact: u32, words: &mut [u64])
-    requires accepted { IsAccepted deck.now }
-    requires fact_bound { fact < fact_count (deck_of deck.now) }
+fn insert_fact(deck: &Deck, fact: u32, words: &mut [u64])
+    requires fact_bound { fact < fact_count (deck_of deck.now.bytes.now) }
     requires words_len { length words.old ≡ 64 }
-    ensures { words.new ≡ insert_all words.old (ends_of (fact_at (deck_of deck.now) fact)) }
+    ensures { words.new ≡ insert_all words.old (ends_of (fact_at (deck_of deck.now.bytes.now) fact)) }
 {
-    let record = fact_at(deck, fact);
+    let record = deck.fact_at(fact);
     labels::insert(words, record.from);
     labels::insert(words, record.to);
 }
 
 // The classes of all facts as bits.
-fn load_facts(deck: &[u8], words: &mut [u64])
-    requires accepted { IsAccepted deck.now }
+fn load_facts(deck: &Deck, words: &mut [u64])
     requires words_len { length words.old ≡ 64 }
-    ensures { words.new ≡ label_of 64 (flat_map ends_of (deck_of deck.now).facts) }
+    ensures { words.new ≡ label_of 64 (flat_map ends_of (deck_of deck.now.bytes.now).facts) }
 {
     labels::clear(words);
-    let count = fact_count(deck);
-    let mut i = 0;
-    while i < count {
+    for i in 0..deck.fact_count() {
         insert_fact(deck, i, words);
-        i += 1;
     }
 }
 
 // Which classes that are not real a fact has, as bits.
-fn load_named(deck: &[u8], words: &mut [u64])
-    requires accepted { IsAccepted deck.now }
+fn load_named(deck: &Deck, words: &mut [u64])
     requires words_len { length words.old ≡ 64 }
-    ensures { Named (deck_of deck.now) words.new }
+    ensures { Named (deck_of deck.now.bytes.now) words.new }
 {
-    if class_count(deck) <= real_count(deck) {
+    if deck.class_count() <= deck.real_count() {
         return;
     }
     load_facts(deck, words);
 }
 
 // A satisfiable class, real or of a fact.
-fn is_seeded(deck: &[u8], named: &[u64], class: ClassId) -> bool
-    requires accepted { IsAccepted deck.now }
-    requires class_bound { class.0 < class_count (deck_of deck.now) }
+fn is_seeded(deck: &Deck, named: &[u64], class: ClassId) -> bool
+    requires class_bound { class.0 < class_count (deck_of deck.now.bytes.now) }
     requires named_len { length named.now ≡ 64 }
-    requires named { Named (deck_of deck.now) named.now }
-    ensures { result ≡ is_seeded (deck_of deck.now) class.0 }
+    requires named { Named (deck_of deck.now.bytes.now) named.now }
+    ensures { result ≡ is_seeded (deck_of deck.now.bytes.now) class.0 }
 {
-    if is_unsatisfiable(deck, class) {
+    if deck.is_unsatisfiable(class) {
         return false;
     }
-    if class.0 < real_count(deck) {
+    if class.0 < deck.real_count() {
         return true;
     }
     labels::has_bit(named, class.0)
 }
 
-// A class is interned by its row.
-fn intern_row(
-    deck: &[u8],
-    floor: &[u64],
-    label: &mut [u64],
-    labels: &mut [u64],
-    elements: u32,
-    class: ClassId,
-    heads: &mut [u32],
-    links: &mut [u32],
-) -> Interned
-    requires accepted { IsAccepted deck.now }
-    requires class_bound { class.0 < class_count (deck_of deck.now) }
-    requires floor_len { length floor.now ≡ label_width (deck_of deck.now) }
-    requires label_len { length label.old ≡ label_width (deck_of deck.now) }
-    requires deck_in_bounds { (elements + 1) * label_width (deck_of deck.now) ≤ length labels.old }
-    requires elements_bound { elements < 65536 }
-    requires elements_in_bounds { elements < length links.old }
-    requires chained { Chained (rows_of (label_width (deck_of deck.now)) elements labels.old) heads.old links.old }
-    ensures placed { Placed labels.old labels.new (rows_of (label_width (deck_of deck.now)) elements labels.old)
-        (row_label (deck_of deck.now) floor.now class.0) result.element.0 result.elements }
-    ensures label_after { label.new ≡ row_label (deck_of deck.now) floor.now class.0 }
-    ensures chained_2 { Chained (interned (rows_of (label_width (deck_of deck.now)) elements labels.old)
-        (row_label (deck_of deck.now) floor.now class.0)) heads.new links.new }
-{
-    load_row(deck, class, label);
-    intern_by(deck, floor, label, labels, elements, heads, links)
+impl Build<'_, '_> {
+    // A class is interned by its row.
+    fn intern_row(&mut self, class: ClassId, heads: &mut [u32], links: &mut [u32]) -> Element
+        requires class_bound { class.0 < class_count (deck_in self.old) }
+        requires place { HasPlace self.old }
+        requires elements_in_bounds { self.old.tally.elements < length links.old }
+        requires chained { Chained (model_of self.old).labels heads.old links.old }
+        ensures interns { Interns self.old self.new (row_label (deck_in self.old) self.old.plan.floor.now class.0) result.0 }
+        ensures chained_after { Chained (interned (model_of self.old).labels (row_label (deck_in self.old) self.old.plan.floor.now class.0)) heads.new links.new }
+    {
+        load_row(self.plan.deck.bytes, class, self.label);
+        self.intern_by(heads, links)
+    }
+
+    // The classes by rising number.
+    fn seed_classes(&mut self, named: &[u64], heads: &mut [u32], links: &mut [u32])
+        requires unseeded { Unseeded self.old }
+        requires named_len { length named.now ≡ 64 }
+        requires named { Named (deck_in self.old) named.now }
+        requires links_len { class_count (deck_in self.old) ≤ length links.old }
+        requires chained { Chained [] heads.old links.old }
+        ensures { Seeds self.old self.new }
+    {
+        let deck = self.plan.deck;
+        for k in 0..deck.class_count() {
+            if is_seeded(&deck, named, ClassId(k)) {
+                let _element = self.intern_row(ClassId(k), heads, links);
+            }
+        }
+    }
+
+    // With a table for up to N classes: its room is made in a frame of its own.
+    #[inline(never)]
+    fn seed_with<const N: usize>(&mut self)
+        requires slots { (0 < N) × (N ≤ 4096) }
+        requires unseeded { Unseeded self.old }
+        requires deck_bound { class_count (deck_in self.old) ≤ N }
+        ensures { Seeds self.old self.new }
+    {
+        let mut named: [u64; 64] = [0; 64];
+        let mut heads: [u32; N] = [0; N];
+        let mut links: [u32; N] = [0; N];
+        let deck = self.plan.deck;
+        load_named(&deck, &mut named);
+        self.seed_classes(&named, &mut heads, &mut links);
+    }
+
+    // The elements of the seeded classes, by rising class.
+    pub fn seed(&mut self)
+        requires { Unseeded self.old }
+        ensures { Seeds self.old self.new }
+    {
+        let deck = self.plan.deck;
+        if deck.class_count() <= 256 {
+            return self.seed_with::<256>();
+        }
+        self.seed_with::<4096>()
+    }
 }
 
-// The classes by rising number; how many elements they make.
-fn seed_classes(
-    deck: &[u8],
-    floor: &[u64],
-    label: &mut [u64],
-    labels: &mut [u64],
-    named: &[u64],
-    heads: &mut [u32],
-    links: &mut [u32],
+// The same over what is lent; how many elements they are: until all crates above take a `Build`.
+pub fn seed<'p, 'a>(
+    deck: &'p [u8],
+    floor: &'p [u64],
+    label: &'a mut [u64],
+    labels: &'a mut [u64],
 ) -> u32
     requires accepted { IsAccepted deck.now }
     requires floor_len { length floor.now ≡ label_width (deck_of deck.now) }
     requires label_len { length label.old ≡ label_width (deck_of deck.now) }
     requires deck_in_bounds { (class_count (deck_of deck.now) + 1) * label_width (deck_of deck.now) ≤ length labels.old }
-    requires named_len { length named.now ≡ 64 }
-    requires named { Named (deck_of deck.now) named.now }
-    requires deck_in_bounds_2 { class_count (deck_of deck.now) ≤ length links.old }
-    requires chained { Chained [] heads.old links.old }
     ensures { Seeded (deck_of deck.now) floor.now label.old label.new labels.old labels.new result }
 {
-    let count = class_count(deck);
-    let mut elements = 0;
-    let mut k = 0;
-    while k < count {
-        if is_seeded(deck, named, ClassId(k)) {
-            let placed = intern_row(
-                deck,
-                floor,
-                label,
-                labels,
-                elements,
-                ClassId(k),
-                heads,
-                links,
-            );
-            elements = placed.elements;
-        }
-        k += 1;
-    }
-    elements
-}
-
-// With a table for up to 256 classes.
-fn seed_few(deck: &[u8], floor: &[u64], label: &mut [u64], labels: &mut [u64]) -> u32
-    requires accepted { IsAccepted deck.now }
-    requires floor_len { length floor.now ≡ label_width (deck_of deck.now) }
-    requires label_len { length label.old ≡ label_width (deck_of deck.now) }
-    requires deck_in_bounds { (class_count (deck_of deck.now) + 1) * label_width (deck_of deck.now) ≤ length labels.old }
-    requires deck_bound { class_count (deck_of deck.now) ≤ 256 }
-    ensures { Seeded (deck_of deck.now) floor.now label.old label.new labels.old labels.new result }
-{
-    let mut named: [u64; 64] = [0; 64];
-    let mut heads: [u32; 256] = [0; 256];
-    let mut links: [u32; 256] = [0; 256];
-    load_named(deck, &mut named);
-    seed_classes(deck, floor, label, labels, &named, &mut heads, &mut links)
-}
-
-// With a table for as many classes as a deck may have.
-fn seed_many(deck: &[u8], floor: &[u64], label: &mut [u64], labels: &mut [u64]) -> u32
-    requires accepted { IsAccepted deck.now }
-    requires floor_len { length floor.now ≡ label_width (deck_of deck.now) }
-    requires label_len { length label.old ≡ label_width (deck_of deck.now) }
-    requires deck_in_bounds { (class_count (deck_of deck.now) + 1) * label_width (deck_of deck.now) ≤ length labels.old }
-    requires deck_bound { class_count (deck_of deck.now) ≤ 4096 }
-    ensures { Seeded (deck_of deck.now) floor.now label.old label.new labels.old labels.new result }
-{
-    let mut named: [u64; 64] = [0; 64];
-    let mut heads: [u32; 4096] = [0; 4096];
-    let mut links: [u32; 4096] = [0; 4096];
-    load_named(deck, &mut named);
-    seed_classes(deck, floor, label, labels, &named, &mut heads, &mut links)
-}
-
-// The elements of the seeded classes, by rising class; how many they are.
-pub fn seed(deck: &[u8], floor: &[u64], label: &mut [u64], labels: &mut [u64]) -> u32
-    requires accepted { IsAccepted deck.now }
-    requires floor_len { length floor.now ≡ label_width (deck_of deck.now) }
-    requires label_len { length label.old ≡ label_width (deck_of deck.now) }
-    requires deck_in_bounds { (class_count (deck_of deck.now) + 1) * label_width (deck_of deck.now) ≤ length labels.old }
-    ensures { Seeded (deck_of deck.now) floor.now label.old label.new labels.old labels.new result }
-{
-    if class_count(deck) <= 256 {
-        return seed_few(deck, floor, label, labels);
-    }
-    seed_many(deck, floor, label, labels)
+    let plan = Plan {
+        deck: Deck { bytes: deck },
+        bounds: Bounds {
+            max_elements: 0,
+            max_edges: 0,
+            max_rounds: 0,
+        },
+        floor,
+    };
+    let mut edges: [[u32; 3]; 1] = [[0; 3]; 1];
+    let mut log: [u32; 1] = [0; 1];
+    let mut b = Build {
+        plan,
+        label,
+        labels,
+        edges: &mut edges,
+        log: &mut log,
+        tally: Tally {
+            elements: 0,
+            edges: 0,
+            reasons: 0,
+        },
+    };
+    b.seed();
+    b.tally.elements
 }

@@ -4,7 +4,7 @@ ghost use Rattle.build.specs.Model.{among};
 ghost use Rattle.build.specs.Push.{quiet};
 ghost use Rattle.build.specs.Quiet.{unchanged};
 
-#[derive(Clone, Copy)]
+#[derive(Clone, Copy, PartialEq, Eq)]
 pub struct Tally {
     pub elements: u32,
     pub edges: u32,
@@ -68,11 +68,5 @@ impl Step {
 pub fn unchanged(t: Tally, u: Tally) -> bool
     ensures { result ≡ unchanged t u }
 {
-    if t.elements != u.elements {
-        return false;
-    }
-    if t.edges != u.edges {
-        return false;
-    }
-    t.reasons == u.reasons
+    t == u
 }

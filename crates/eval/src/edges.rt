@@ -9,7 +9,7 @@ use crate::index::{jump, walk_of};
 use deck::numbers::{Element, RoleId, RoleWord};
 use deck::{roles, rows};
 
-#[derive(Clone, Copy)]
+#[derive(Clone, Copy, PartialEq, Eq)]
 pub struct Edge {
     pub role: RoleId,
     pub from: Element,

@@ -1,24 +1,25 @@
-use Prim.Native.Nat.{ℕ, ◌<◌}
 use mathlib.Core.Path.{sym, ◌∙◌}
+use Prim.Native.Nat.{ℕ, ◌<◌}
 use native.Mathlib.Omega.{arith}
-use borrow.Author.Count.{below_none, below_more}
-use lib.ListN.{length}
-use Rattle.build.proofs.InternLaws.{row-found, row-none}
+use borrow.Author.Count.{below_more}
+use Rattle.std.proofs.lemmas.Slice.Eq.{slice_eq-Decides}
+use Rattle.std.proofs.lemmas.Bool.Decides.{Decides-eqb}
+use Rattle.atoms.proofs.LabelLaws.{not_so, same-eq}
+use Rattle.build.proofs.InternLaws.{same-by, found-row, found-no-row}
 use Rattle.build.proofs.intern.find.Goals as goal
 
-pub loop-e-init : goal.loop-e-init
-loop-e-init c =
-    (omega arith, below_none _)
+pub loop-e-preserved-then-differs : goal.loop-e-preserved-then-differs
+loop-e-preserved-then-differs c =
+    below_more _ _ c.loop-e.invariant (not_so _ (λ e. c.differs.ensures c.if-differs.true (c.row-other.ensures.words ∙ same-eq _ _ e)))
 
-pub returns-then-is_row : goal.returns-then-is_row
-returns-then-is_row c =
-    sym (row-found _ _ _ _ c.loop-e.e (omega arith) c.loop-e.invariant.1 (rw c.row_start-at.ensures.0 at (sym c.is_row.ensures ∙ c.if-is_row.true)))
+pub returns-then-eq : goal.returns-then-eq
+returns-then-eq c =
+    found-row _ _ _ _ c.loop-e.e (omega arith) c.loop-e.invariant (rw c.row-other.ensures.words at (sym (same-by {x = c.row-other.result.now} {l = c.args.label.now} (slice_eq-Decides Decides-eqb _ _ _ c.eq.ensures)) ∙ c.if-eq.true))
 
 pub loop-e-preserved : goal.loop-e-preserved
 loop-e-preserved c =
-    (omega arith, below_more _ _ c.loop-e.invariant.1 (rw c.row_start-at.ensures.0 at (sym c.is_row.ensures ∙ c.if-is_row.false)))
+    below_more _ _ c.loop-e.invariant (rw c.row-other.ensures.words at (sym (same-by {x = c.row-other.result.now} {l = c.args.label.now} (slice_eq-Decides Decides-eqb _ _ _ c.eq.ensures)) ∙ c.if-eq.false))
 
 pub returns : goal.returns
 returns c =
-    let a = c.args in
-    sym (row-none (length a.label.now) a.elements a.labels.now a.label.now (λ (k : ℕ) (b : k < a.elements). c.loop-e.invariant.1 k (omega arith)))
+    found-no-row _ _ _ _ (λ (k : ℕ) (b : k < c.args.elements). c.loop-e.invariant k (omega (arith, c.loop-e.auto)))

@@ -1,24 +1,20 @@
-use native.Mathlib.Omega.{arith}
-use mathlib.Core.Path.{ap, ◌∙◌}
-use Rattle.build.proofs.BuildLaws.{next_fits, reach-full, reach-link}
-use lib.ListN.{length}
+use Rattle.std.proofs.Common.{rules, ap, ◌∙◌, length, is_err}
+use Rattle.deck.specs.Content.{deck_of}
 use Rattle.atoms.proofs.FloorLaws.{length-floored}
+use Rattle.atoms.specs.Floor.{floored}
+use Rattle.build.specs.Building.{buffers, step_to}
+use Rattle.build.specs.Model.{lent, begun, reach, Built}
+use Rattle.build.proofs.BuildLaws.{reach-linked}
 use Rattle.build.proofs.reach.reach.Goals as goal
 
-pub intern-placed-requires : goal.intern-placed-requires
-intern-placed-requires c =
-    let P = c.requires.prepared in record { accepted = P.accepted; floor_len = P.floor-wide; label_len = P.label-wide; deck_in_bounds = next_fits P; elements_bound = omega (arith, P.few, P.most) }
-
-pub returns-then-bounds-elements : goal.returns-then-bounds-elements
-returns-then-bounds-elements c =
+pub returns-clause-built : goal.returns-clause-built
+returns-clause-built c =
     let P = c.requires.prepared in
-    let w = length-floored _ _ _ ∙ P.label-wide in record { built = rw (c.tripping.ensures, c.with_reasons.ensures, c.with_elements-held.ensures) (reach-full P w c.intern-placed.ensures.placed (ap length c.intern-placed.ensures.label_after ∙ w) _ _ c.if-bounds-elements.true (rw c.bound_tripped-reason.ensures at c.note-reasons.ensures.0) c.note-reasons.ensures.1); place = c.intern-placed.ensures.placed.place }
-
-pub push_edge-step-requires : goal.push_edge-step-requires
-push_edge-step-requires c =
-    record { room = rw c.with_elements-held.ensures c.requires.prepared.space; tail = rw c.with_elements-held.ensures c.requires.tail }
-
-pub returns : goal.returns
-returns c =
-    let P = c.requires.prepared in
-    let w = length-floored _ _ _ ∙ P.label-wide in record { built = reach-link P w c.intern-placed.ensures.placed (ap length c.intern-placed.ensures.label_after ∙ w) _ _ (omega (arith, c.if-bounds-elements.false)) (rw c.with_elements-held.ensures at c.push_edge-step.ensures); place = c.intern-placed.ensures.placed.place }
+    let a = c.args in
+    let D = deck_of a.deck.now in
+    let i = c.intern-element.ensures in
+    let p = c.link.ensures in
+    let w = length-floored D a.floor.now a.label.now ∙ P.label-wide in
+    let X : Built D a.bounds (lent a.labels.now a.edges.now a.log.now) a.t (buffers c.link.new.self) c.link.new.self.label.now (step_to c.link.new.self (is_err c.link.result)) (reach a.bounds a.role.0 a.from.0 (floored D a.floor.now a.label.now) (begun D (lent a.labels.now a.edges.now a.log.now) a.t)) =
+    rw (p.label, p.labels) (reach-linked P w i.placed (ap length i.label ∙ w) _ _ (rw (i.same.plan, i.edges, i.log, i.tally) at p.left)) in
+    search (rules, X)

@@ -10,11 +10,11 @@ use Rattle.build.proofs.seed.insert_fact.Goals as goal
 
 pub insert-requires : goal.insert-requires
 insert-requires c =
-    omega (arith, c.fact_at-record.ensures.fits.from, (limited _ c.requires.accepted).classes, c.requires.words_len)
+    omega (arith, c.fact_at-record.ensures.fits.from, (limited _ c.args.deck.now.accepted).classes, c.requires.words_len)
 
 pub insert-requires-2 : goal.insert-requires-2
 insert-requires-2 c =
-    omega (arith, c.fact_at-record.ensures.fits.to, (limited _ c.requires.accepted).classes, c.requires.words_len, c.insert.auto.label)
+    omega (arith, c.fact_at-record.ensures.fits.to, (limited _ c.args.deck.now.accepted).classes, c.requires.words_len, c.insert.auto.label)
 
 pub returns : goal.returns
 returns c =

@@ -14,7 +14,7 @@ returns-then-class-real_count c =
 
 pub has_bit-requires : goal.has_bit-requires
 has_bit-requires c =
-    omega (arith, c.requires.class_bound, c.requires.named_len, (limited _ c.requires.accepted).classes)
+    omega (arith, c.requires.class_bound, c.requires.named_len, (limited _ c.args.deck.now.accepted).classes)
 
 pub returns : goal.returns
 returns c =
