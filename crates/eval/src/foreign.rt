@@ -44,13 +44,10 @@ fn edges_fit(deck: &[u8], edges: &[[u32; 3]], shape: Shape) -> bool
     requires edges_in_bounds { shape.edges ≤ length edges.now }
     ensures { result ≡ edges_fit (deck_of deck.now) edges.now shape }
 {
-    let count = shape.edges as usize;
-    let mut i = 0;
-    while i < count {
+    for i in 0..shape.edges as usize {
         if !edge_fits(deck, shape.elements, edge_at(edges, i)) {
             return false;
         }
-        i += 1;
     }
     true
 }
@@ -82,13 +79,10 @@ fn labels_fit(deck: &[u8], labels: &[u64], shape: Shape) -> bool
     requires deck_in_bounds { shape.elements * label_width (deck_of deck.now) ≤ length labels.now }
     ensures { result ≡ labels_fit (deck_of deck.now) labels.now shape }
 {
-    let elements = shape.elements;
-    let mut e = 0;
-    while e < elements {
-        if !label_fits(deck, labels, elements, Element(e)) {
+    for e in 0..shape.elements {
+        if !label_fits(deck, labels, shape.elements, Element(e)) {
             return false;
         }
-        e += 1;
     }
     true
 }

@@ -19,12 +19,10 @@ fn has_any(deck: &[u8], edges: &[[u32; 3]], count: u32, r: RoleId) -> bool
     requires count_in_bounds { count ≤ length edges.now }
     ensures { result ≡ any (map (under (deck_of deck.now) r.0) (edges_of edges.now count)) }
 {
-    let mut i = 0;
-    while i < count as usize {
+    for i in 0..count as usize {
         if is_sub_role(deck, edge_at(edges, i), r) {
             return true;
         }
-        i += 1;
     }
     false
 }

@@ -123,10 +123,8 @@ fn clear(index: &mut [u32], n: usize)
     requires { n ≤ length index.old }
     ensures { (length index.new ≡ length index.old) × ((k : ℕ) → k < n → get_or index.new k 0 ≡ 0) }
 {
-    let mut i = 0;
-    while i < n {
+    for i in 0..n {
         index[i] = 0;
-        i += 1;
     }
 }
 

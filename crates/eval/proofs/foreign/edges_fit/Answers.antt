@@ -5,16 +5,7 @@ use Rattle.eval.specs.Foreign.{edges_fit}
 use Rattle.eval.proofs.foreign.edges_fit.Goals as goal
 
 pub loop-i-init : goal.loop-i-init
-loop-i-init c =
-    (omega arith, all_none _)
-
-pub edge_at-requires : goal.edge_at-requires
-edge_at-requires c =
-    omega (arith, c.requires.accepted, c.requires.edges_in_bounds)
-
-pub edge_fits-requires : goal.edge_fits-requires
-edge_fits-requires c =
-    c.requires.accepted
+loop-i-init c = all_none _
 
 pub returns-then-not-edge_fits : goal.returns-then-not-edge_fits
 unfolding edges_fit
@@ -23,10 +14,10 @@ returns-then-not-edge_fits c =
 
 pub loop-i-preserved : goal.loop-i-preserved
 loop-i-preserved c =
-    (omega arith, all_more _ _ c.loop-i.invariant.1 (rw c.edge_at.ensures at (sym c.edge_fits.ensures ∙ c.if-not-edge_fits.false)))
+    all_more _ _ c.loop-i.invariant (rw c.edge_at.ensures at (sym c.edge_fits.ensures ∙ c.if-not-edge_fits.false))
 
 pub returns : goal.returns
 unfolding edges_fit
 returns c =
     let e : c.loop-i.i ≡ c.args.shape.edges = omega arith in
-    sym (rw e at c.loop-i.invariant.1)
+    sym (rw e at c.loop-i.invariant)

@@ -1,4 +1,3 @@
-use Prim.Native.Nat.{◌≤◌, ◌-◌}
 use mathlib.Core.Path.{◌≡◌}
 use mathlib.Core.Bool.{true}
 use mathlib.Core.List.{[]}
@@ -10,7 +9,4 @@ use Rattle.eval.specs.Foreign.{edge_fits}
 use Rattle.eval.proofs.foreign.edges_fit.Given as goal
 
 abbrev pub invariant-loop-i : goal.invariant-loop-i
-invariant-loop-i l = (l.i ≤ l.count) × (all_below (λ k. edge_fits (deck_of l.deck) l.shape.elements (edge_of (get_or l.edges k []))) l.i ≡ true)
-
-abbrev pub decreases-loop-i : goal.decreases-loop-i
-decreases-loop-i l = l.count - l.i
+invariant-loop-i l = all_below (λ k. edge_fits (deck_of l.deck) l.shape.elements (edge_of (get_or l.edges k []))) l.i ≡ true

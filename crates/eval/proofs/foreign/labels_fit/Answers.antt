@@ -5,12 +5,7 @@ use Rattle.eval.specs.Foreign.{labels_fit}
 use Rattle.eval.proofs.foreign.labels_fit.Goals as goal
 
 pub loop-e-init : goal.loop-e-init
-loop-e-init c =
-    (omega arith, all_none _)
-
-pub label_fits-requires : goal.label_fits-requires
-label_fits-requires c =
-    record { accepted = c.requires.accepted; deck_in_bounds = c.requires.deck_in_bounds; e_lt_elements = c.loop-e-test.true }
+loop-e-init c = all_none _
 
 pub returns-then-not-label_fits : goal.returns-then-not-label_fits
 unfolding labels_fit
@@ -19,10 +14,10 @@ returns-then-not-label_fits c =
 
 pub loop-e-preserved : goal.loop-e-preserved
 loop-e-preserved c =
-    (omega arith, all_more _ _ c.loop-e.invariant.1 (sym c.label_fits.ensures ∙ c.if-not-label_fits.false))
+    all_more _ _ c.loop-e.invariant (sym c.label_fits.ensures ∙ c.if-not-label_fits.false)
 
 pub returns : goal.returns
 unfolding labels_fit
 returns c =
     let e : c.loop-e.e ≡ c.args.shape.elements = omega arith in
-    sym (rw e at c.loop-e.invariant.1)
+    sym (rw e at c.loop-e.invariant)

@@ -1,4 +1,3 @@
-use Prim.Native.Nat.{◌≤◌, ◌-◌}
 use mathlib.Core.Path.{◌≡◌}
 use mathlib.Core.Bool.{true}
 use Rattle.deck.specs.Below.{all_below}
@@ -7,7 +6,4 @@ use Rattle.eval.specs.Foreign.{label_fits}
 use Rattle.eval.proofs.foreign.labels_fit.Given as goal
 
 abbrev pub invariant-loop-e : goal.invariant-loop-e
-invariant-loop-e l = (l.e ≤ l.elements) × (all_below (label_fits (deck_of l.deck) l.labels) l.e ≡ true)
-
-abbrev pub decreases-loop-e : goal.decreases-loop-e
-decreases-loop-e l = l.elements - l.e
+invariant-loop-e l = all_below (label_fits (deck_of l.deck) l.labels) l.e ≡ true
