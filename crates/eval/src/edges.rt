@@ -16,16 +16,21 @@ pub struct Edge {
     pub to: Element,
 }
 
+pub fn read_edge(row: &[u32; 3]) -> Edge
+    ensures { result ≡ edge_of row.now }
+{
+    Edge {
+        role: RoleId(row[0]),
+        from: Element(row[1]),
+        to: Element(row[2]),
+    }
+}
+
 pub fn edge_at(edges: &[[u32; 3]], i: usize) -> Edge
     requires { i < length edges.now }
     ensures { result ≡ edge_of (get_or edges.now i []) }
 {
-    let e = edges[i];
-    Edge {
-        role: RoleId(e[0]),
-        from: Element(e[1]),
-        to: Element(e[2]),
-    }
+    read_edge(&edges[i])
 }
 
 // An edge as a role word sees it: turned if the word is inverse.
