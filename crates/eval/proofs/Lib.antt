@@ -35,3 +35,4 @@ pub mod AxiomLaws
 pub mod ChainLaws
 pub mod ForeignLaws
 pub mod EntryLaws
+pub mod LeavingLaws

@@ -29,7 +29,25 @@ pub struct Leaving<'a> {
 impl<'a> EdgeIndex<'a> {
     ghost use Rattle.std.specs.Prelude.{◌≡◌, ◌<◌};
     ghost use Rattle.eval.specs.Edges.{edges_of};
+    ghost use Rattle.eval.specs.Index.{Advanced};
     ghost use Rattle.eval.specs.Leaving.{leaving, left};
+
+    // The walk at the next edge that leaves x, or at the end.
+    fn advance(self, x: Element, walk: Walk) -> Walk
+        requires at_in_bounds { walk.at ≤ self.count }
+        requires ahead { Ahead self.edges.now self.elements self.index.now x.0 walk.at walk.run }
+        ensures { Advanced self.entry.edges.now self.entry.elements self.entry.count self.entry.index.now x.0 walk.at result }
+    {
+        let count = self.count as usize;
+        let mut w = walk;
+        while w.at < count {
+            if edge_at(self.edges, w.at).from.0 == x.0 {
+                return w;
+            }
+            w = jump(self.edges, self.count, self.index, self.elements, x, w);
+        }
+        w
+    }
 
     pub fn leaving(self, x: Element) -> Leaving<'a>
         requires { x.0 < self.elements }
@@ -54,17 +72,14 @@ impl Iterator for Leaving<'_> {
     ghost remaining = { item_count left };
 
     fn next(&mut self) -> Option<Edge> {
-        let of = self.of;
-        let x = self.x;
-        let mut w = self.walk;
-        while w.at < of.count as usize {
-            let e = edge_at(of.edges, w.at);
-            if e.from.0 == x.0 {
-                w.at += 1;
-                self.walk = w;
-                return Some(e);
-            }
-            w = jump(of.edges, of.count, of.index, of.elements, x, w);
+        let w = self.of.advance(self.x, self.walk);
+        if w.at < self.of.count as usize {
+            let e = edge_at(self.of.edges, w.at);
+            self.walk = Walk {
+                at: w.at + 1,
+                run: w.run,
+            };
+            return Some(e);
         }
         self.walk = w;
         None
