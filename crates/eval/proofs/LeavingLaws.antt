@@ -1,7 +1,13 @@
 -- The edges that leave an element, from a position of the list on.
 use Prim.Native.Nat.{ℕ, suc, ◌+◌, ◌<◌, ◌≤◌}
 use mathlib.Core.Bool.{Bool, true, false, cond, ◌||◌}
-use mathlib.Core.List.{List, [], ◌∷◌, map}
+use mathlib.Core.Bool.{◌&&◌}
+use mathlib.Core.Logic.{◌⊎◌}
+use mathlib.Core.List.Memᴰ.{cases_cons}
+use mathlib.Core.List.Memᴰ.{head as here}
+use mathlib.Core.List.Memᴰ.{not-nil as nothing-in}
+use mathlib.Core.List.Memᴰ.{tail as there}
+use mathlib.Core.List.{List, [], ◌∷◌, map, Memᴰ as Member}
 use mathlib.Core.Path.{◌≡◌, refl, sym, ap, ◌∙◌}
 use native.Mathlib.Omega.{arith}
 use lib.ListN.{length, get_or, drop, drop_of_length-le}
@@ -13,6 +19,10 @@ use Rattle.eval.specs.Edges.{edge_of, edges_of}
 use Rattle.eval.specs.Index.{Gap, from_at}
 use Rattle.eval.specs.Leaving.{leaving}
 use Rattle.eval.specs.Lists.{any}
+use Rattle.eval.specs.Lowest.{Among, Seen}
+use Rattle.eval.specs.declared.judgement.Judgement.{Judgement}
+use Rattle.eval.specs.declared.lowest.Lowest.{Lowest}
+use Rattle.eval.proofs.Clash.{clash}
 use Rattle.eval.proofs.EdgeWalks.{no_edge, edges-length, edges_at}
 use Rattle.eval.proofs.IndexLaws.{climb}
 use Rattle.eval.proofs.Walks.{list-step}
@@ -47,3 +57,38 @@ any-leaving p x off (e ∷ es) = go (eqb e.from.0 x) refl (any-leaving p x off e
     go : (b : Bool) → eqb e.from.0 x ≡ b → list_any p (leaving x es) ≡ any (map p es) → list_any p (cond b (e ∷ leaving x es) (leaving x es)) ≡ (p e || any (map p es))
     go true q h = ap (λ b. p e || b) h
     go false q h = rw (off e (eqb-false e.from.0 x q)) h
+
+filter-in : {A : Type 0} (p : A → Bool) (xs : List A) (a : A) → Member a xs → p a ≡ true → Member a (filter p xs)
+filter-in p [] a m e = absurd (nothing-in m)
+filter-in {A} p (x ∷ xs) a m e = go (p x) refl (cases_cons m) (λ n. filter-in p xs a n e)
+  where
+    go : (b : Bool) → p x ≡ b → (a ≡ x) ⊎ Member a xs → (Member a xs → Member a (filter p xs)) → Member a (cond b (x ∷ filter p xs) (filter p xs))
+    go true q (◌⊎◌.inl i) ih = here i
+    go true q (◌⊎◌.inr n) ih = there (ih n)
+    go false q (◌⊎◌.inl i) ih = clash (cc)
+    go false q (◌⊎◌.inr n) ih = ih n
+
+in-filter : {A : Type 0} (p : A → Bool) (xs : List A) (a : A) → Member a (filter p xs) → Member a xs
+in-filter p [] a m = m
+in-filter {A} p (x ∷ xs) a m = go (p x) m (in-filter p xs a)
+  where
+    go : (b : Bool) → Member a (cond b (x ∷ filter p xs) (filter p xs)) → (Member a (filter p xs) → Member a xs) → Member a (x ∷ xs)
+    go true m ih = later (cases_cons m)
+      where
+        later : (a ≡ x) ⊎ Member a (filter p xs) → Member a (x ∷ xs)
+        later (◌⊎◌.inl i) = here i
+        later (◌⊎◌.inr n) = there (ih n)
+    go false m ih = there (ih m)
+
+-- what was seen among the edges that leave x was seen among all, by a test that only those pass
+pub seen-leaving : (p : Edge → Bool) (f : Edge → Judgement) (x : ℕ) (es : List Edge) → ((e : Edge) → p e ≡ true → eqb e.from.0 x ≡ true) → {l : Lowest} → Seen (Among p (leaving x es)) f l → Seen (Among p es) f l
+seen-leaving p f x es on S =
+    let at = λ (e : Edge). eqb e.from.0 x in
+    let to : (e : Edge) → Among p (leaving x es) e → Among p es e = λ e m. record { member = in-filter at es e m.member; passes = m.passes } in
+    let back : (e : Edge) → Among p es e → Among p (leaving x es) e = λ e m. record { member = filter-in at es e m.member (on e m.passes); passes = m.passes } in
+    record {
+      fails = λ h. let m = S.fails h in record { edge = m.edge; met = to m.edge m.met; fails = m.fails; from_is = m.from_is; to_is = m.to_is; least = λ e q. m.least e (back e q) };
+      sound = λ h e q. S.sound h e (back e q);
+      opens = λ h. let m = S.opens h in record { edge = m.edge; met = to m.edge m.met; unresolved = m.unresolved };
+      closed = λ h e t q. S.closed h e t (back e q);
+    }
