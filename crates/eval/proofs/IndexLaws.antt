@@ -14,8 +14,8 @@ use native.Mathlib.Omega.{arith}
 use native.Mathlib.Numerals.{add-one}
 use lib.ListN.{length, get_or, set, drop, length-set, get_or-eq_default}
 use lib.Seq.{get_or-set_same, get_or-set_other}
-use lib.Dec.{eqb}
-use borrow.Author.Tests.{eq-eqb, ne_eqb, eqb-true, eqb-false}
+use lib.Dec.{eqb, ltb}
+use borrow.Author.Tests.{eq-eqb, ne_eqb, eqb-true, eqb-false, ltb-true, ltb-false}
 use Rattle.deck.specs.Deck.{Deck}
 use Rattle.deck.proofs.CaseLaws.{lt-or-le}
 use Rattle.eval.specs.declared.edges.Edge.{Edge}
@@ -50,6 +50,13 @@ module _ (rows : List (List ℕ)) (x : ℕ) where
 
   pub gap-one : {i : ℕ} → (from_at rows i ≡ x → ⊥) → Gap rows x i (i + 1)
   gap-one {i} n = gap_back n (gap-none (i + 1))
+
+  pub gap-join : {i m s : ℕ} → Gap rows x i m → Gap rows x m s → Gap rows x i s
+  gap-join {i} {m} {s} g h j p q = go (ltb j m) refl
+    where
+      go : (b : Bool) → ltb j m ≡ b → from_at rows j ≡ x → ⊥
+      go true t = g j p (ltb-true j m t)
+      go false t = h j (ltb-false j m t) q
 
   pub once-less : {i s s' : ℕ} → s' ≤ s → Once rows x i s → Once rows x i s'
   once-less a o = λ j p q n. gap-less (omega arith) a (o j p (omega (arith, a, q)) n)
@@ -207,7 +214,7 @@ module _ (rows : List (List ℕ)) (n count : ℕ) (index : List ℕ) where
 
 -- ---- loops that skip
 -- what each step keeps holds at the end
-climb : (P : ℕ → Type 0) (i j : ℕ) → i ≤ j → ((k : ℕ) → i ≤ k → k < j → P k → P (k + 1)) → P i → P j
+pub climb : (P : ℕ → Type 0) (i j : ℕ) → i ≤ j → ((k : ℕ) → i ≤ k → k < j → P k → P (k + 1)) → P i → P j
 climb P i zero h s p = subst P (omega (arith, h)) p
 climb P i (suc j) h s p =
     ⊎_elim (λ (e : i ≡ suc j). subst P e p)

@@ -16,8 +16,7 @@ use Rattle.deck.proofs.SoundLaws.{sound}
 use Rattle.eval.specs.declared.edges.Edge.{Edge}
 use Rattle.eval.specs.declared.judgement.Judgement.{Judgement}
 use Rattle.eval.specs.declared.judgement.Judgement.TheVariants.{True, Unresolved}
-use Rattle.eval.specs.declared.memo.Recalled.{Recalled}
-use Rattle.eval.specs.declared.memo.Recalled.TheVariants.{Known}
+use Rattle.std.proofs.Common.{Option, Some, None}
 use Rattle.eval.specs.declared.shape.Shape.{Shape}
 use Rattle.eval.specs.declared.standing.Standing.{Standing}
 use Rattle.eval.specs.Edges.{edge_of, edges_of, leaves, under}
@@ -121,7 +120,7 @@ module _ (s labels : List ℕ) (rows : List (List ℕ)) (shape : Shape) where
 
   -- ---- what is remembered
   module _ {index memo : List ℕ} (E : Equipped s labels rows shape index memo) (c e : ℕ) (h : e < shape.elements) where
-    pub recalled-is : {r : Recalled} → r ≡ recalled memo (key_of shape.elements c e) → (j : Judgement) → r ≡ Known j → j ≡ judge D S c e
+    pub recalled-is : {r : Option Judgement} → r ≡ recalled memo (key_of shape.elements c e) → (j : Judgement) → r ≡ Some j → j ≡ judge D S c e
     recalled-is {r} p j q = recalled-right D S E.remembers c e h r p j q
 
     pub equipped-with : {j : Judgement} → j ≡ judge D S c e → {is : List ℕ} → is ≡ stored memo (key_of shape.elements c e) (code_of j) → Equipped s labels rows shape index is

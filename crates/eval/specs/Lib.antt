@@ -17,3 +17,4 @@ pub mod Demand
 pub mod Justified
 pub mod Foreign
 pub mod Entry
+pub mod Leaving

@@ -12,7 +12,7 @@ ghost use Rattle.eval.specs.Verdict.{is_holds, onward, composed};
 
 use crate::concepts::truth_of;
 use crate::edges::{edge_at, has_edge, is_sub_role, leaves_by};
-use crate::index::{jump, walk_of};
+use crate::leaving::EdgeIndex;
 use crate::lowest::Lowest;
 use crate::shape::Shape;
 use crate::verdict::{Verdict, Witnesses, holds};
@@ -38,30 +38,27 @@ fn lowest_onward(
     requires y_lt_elements { y.0 < shape.elements }
     ensures { Seen (Among (leaves (deck_of deck.now) b.0 y.0) (edges_of edges.now shape.edges)) (λ e. truth (has_edge (deck_of deck.now) (structure_of (deck_of deck.now) labels.now edges.now shape) sup.0 x.0 e.to.0)) result }
 {
-    let count = shape.edges as usize;
+    let leaving = EdgeIndex {
+        edges,
+        count: shape.edges,
+        index,
+        elements: shape.elements,
+    };
     let mut lowest = Lowest::new();
-    let mut w = walk_of(index, y);
-    while w.at < count {
-        let e = edge_at(edges, w.at);
-        if e.from.0 != y.0 {
-            w = jump(edges, shape.edges, index, shape.elements, y, w);
-            continue;
+    for e in leaving.leaving(y) {
+        if leaves_by(deck, e, b, y) {
+            let linked = has_edge(
+                deck,
+                edges,
+                shape.edges,
+                index,
+                shape.elements,
+                sup,
+                x,
+                e.to,
+            );
+            lowest = lowest.next(truth_of(linked), e);
         }
-        w.at += 1;
-        if !leaves_by(deck, e, b, y) {
-            continue;
-        }
-        let linked = has_edge(
-            deck,
-            edges,
-            shape.edges,
-            index,
-            shape.elements,
-            sup,
-            x,
-            e.to,
-        );
-        lowest = lowest.next(truth_of(linked), e);
     }
     lowest
 }

@@ -122,13 +122,10 @@ fn votes_at(
     ensures few { result.trues + result.falses + result.unresolved ≤ list.count }
     ensures kept { Equipped deck.now labels.now edges.now shape index.now memo.new }
 {
-    let count = list.count;
     let mut votes = Votes::new();
-    let mut i = 0;
-    while i < count {
+    for i in 0..list.count {
         let member = ConceptId(item(deck, list, i));
         votes = votes.vote(eval_concept(deck, labels, edges, shape, index, memo, member, e));
-        i += 1;
     }
     votes
 }

@@ -12,7 +12,7 @@ use crate::edges::{edge_at, is_sub_role};
 use crate::index::{Walk, jump, walk_of};
 use crate::judgement::Judgement;
 use crate::labels::has_class;
-use crate::memo::{Recalled, recall, remember};
+use crate::memo::{recall, remember};
 use crate::shape::Shape;
 use crate::standing::Standing;
 use deck::concepts::{ConceptExpr, concept_at};
@@ -118,8 +118,7 @@ fn eval_and(
     ensures is { result ≡ judge (deck_of deck.now) (structure_of (deck_of deck.now) labels.now edges.now shape) owner.0 e.0 }
     ensures kept { Equipped deck.now labels.now edges.now shape index.now memo.new }
 {
-    let known = recall(memo, shape.elements, owner, e);
-    if let Recalled::Known(j) = known {
+    if let Some(j) = recall(memo, shape.elements, owner, e) {
         return j;
     }
     let count = list.count;
@@ -159,8 +158,7 @@ fn eval_some(
     ensures is { result ≡ judge (deck_of deck.now) (structure_of (deck_of deck.now) labels.now edges.now shape) owner.0 e.0 }
     ensures kept { Equipped deck.now labels.now edges.now shape index.now memo.new }
 {
-    let known = recall(memo, shape.elements, owner, e);
-    if let Recalled::Known(j) = known {
+    if let Some(j) = recall(memo, shape.elements, owner, e) {
         return j;
     }
     let r = role.role_id();

@@ -5,7 +5,7 @@ ghost use Rattle.deck.specs.Deck.{role_count, role_of};
 ghost use Rattle.eval.specs.Edges.{edge_of, edges_of, goes, leaves, linked, linked_by, turned, under};
 ghost use Rattle.eval.specs.Index.{Indexed};
 
-use crate::index::{jump, walk_of};
+use crate::leaving::EdgeIndex;
 use deck::numbers::{Element, RoleId, RoleWord};
 use deck::{roles, rows};
 
@@ -16,16 +16,21 @@ pub struct Edge {
     pub to: Element,
 }
 
+pub fn read_edge(row: &[u32; 3]) -> Edge
+    ensures { result ≡ edge_of row.now }
+{
+    Edge {
+        role: RoleId(row[0]),
+        from: Element(row[1]),
+        to: Element(row[2]),
+    }
+}
+
 pub fn edge_at(edges: &[[u32; 3]], i: usize) -> Edge
     requires { i < length edges.now }
     ensures { result ≡ edge_of (get_or edges.now i []) }
 {
-    let e = edges[i];
-    Edge {
-        role: RoleId(e[0]),
-        from: Element(e[1]),
-        to: Element(e[2]),
-    }
+    read_edge(&edges[i])
 }
 
 // An edge as a role word sees it: turned if the word is inverse.
@@ -126,17 +131,11 @@ pub fn has_edge(
     requires x_lt_elements { x.0 < elements }
     ensures { result ≡ linked (deck_of deck.now) (edges_of edges.now count) r.0 x.0 y.0 }
 {
-    let mut w = walk_of(index, x);
-    while w.at < count as usize {
-        let e = edge_at(edges, w.at);
-        if e.from.0 != x.0 {
-            w = jump(edges, count, index, elements, x, w);
-            continue;
-        }
-        if goes_by(deck, e, r, x, y) {
-            return true;
-        }
-        w.at += 1;
-    }
-    false
+    let index = EdgeIndex {
+        edges,
+        count,
+        index,
+        elements,
+    };
+    index.leaving(x).any(|e| goes_by(deck, e, r, x, y))
 }

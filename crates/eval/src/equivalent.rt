@@ -20,14 +20,11 @@ fn any_inverse(deck: &[u8], list: Span) -> bool
     requires list_fits { ListFits deck.now (2 * role_count (deck_of deck.now)) list }
     ensures { result ≡ any_inverse (map role_of (list_of deck.now list)) }
 {
-    let count = list.count;
-    let mut i = 0;
-    while i < count {
+    for i in 0..list.count {
         let member = RoleWord(item(deck, list, i));
         if member.is_inverse() {
             return true;
         }
-        i += 1;
     }
     false
 }

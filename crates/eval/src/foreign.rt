@@ -4,7 +4,7 @@ ghost use Rattle.deck.specs.Content.{IsAccepted, deck_of};
 ghost use Rattle.eval.specs.Foreign.{counts_fit, edge_fits, edges_fit, label_fits, labels_fit, structure_fits};
 ghost use Rattle.eval.specs.Lent.{label_width};
 
-use crate::edges::{Edge, edge_at};
+use crate::edges::{Edge, read_edge};
 use crate::labels::{cell, label_width};
 use crate::shape::Shape;
 use deck::numbers::Element;
@@ -44,15 +44,9 @@ fn edges_fit(deck: &[u8], edges: &[[u32; 3]], shape: Shape) -> bool
     requires edges_in_bounds { shape.edges ≤ length edges.now }
     ensures { result ≡ edges_fit (deck_of deck.now) edges.now shape }
 {
-    let count = shape.edges as usize;
-    let mut i = 0;
-    while i < count {
-        if !edge_fits(deck, shape.elements, edge_at(edges, i)) {
-            return false;
-        }
-        i += 1;
-    }
-    true
+    edges[..shape.edges as usize]
+        .iter()
+        .all(|row| edge_fits(deck, shape.elements, read_edge(row)))
 }
 
 // The last word of e's label has no bit at or past N.
@@ -82,15 +76,7 @@ fn labels_fit(deck: &[u8], labels: &[u64], shape: Shape) -> bool
     requires deck_in_bounds { shape.elements * label_width (deck_of deck.now) ≤ length labels.now }
     ensures { result ≡ labels_fit (deck_of deck.now) labels.now shape }
 {
-    let elements = shape.elements;
-    let mut e = 0;
-    while e < elements {
-        if !label_fits(deck, labels, elements, Element(e)) {
-            return false;
-        }
-        e += 1;
-    }
-    true
+    (0..shape.elements).all(|e| label_fits(deck, labels, shape.elements, Element(e)))
 }
 
 pub fn structure_fits(deck: &[u8], labels: &[u64], edges: &[[u32; 3]], shape: Shape) -> bool

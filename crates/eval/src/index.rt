@@ -123,11 +123,7 @@ fn clear(index: &mut [u32], n: usize)
     requires { n ≤ length index.old }
     ensures { (length index.new ≡ length index.old) × ((k : ℕ) → k < n → get_or index.new k 0 ≡ 0) }
 {
-    let mut i = 0;
-    while i < n {
-        index[i] = 0;
-        i += 1;
-    }
+    index[..n].fill(0);
 }
 
 // Does run h start just after edge i, and leave the same element?

@@ -15,6 +15,8 @@ mod guarded;
 pub mod index;
 pub mod judgement;
 pub mod labels;
+mod leaving;
+mod lent;
 mod lowest;
 mod memo;
 mod roles;

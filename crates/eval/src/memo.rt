@@ -6,13 +6,6 @@ ghost use Rattle.eval.specs.Memo.{code_of, key_of, recalled, recalled_as, stored
 use crate::judgement::Judgement;
 use deck::numbers::{ConceptId, Element};
 
-// What the table has for a concept at an element.
-#[derive(Clone, Copy)]
-pub enum Recalled {
-    Known(Judgement),
-    Unknown,
-}
-
 fn key(elements: u32, concept: ConceptId, e: Element) -> u64
     ensures { result ≡ key_of elements concept.0 e.0 }
 {
@@ -38,22 +31,22 @@ fn code_of(j: Judgement) -> u32
     }
 }
 
-fn recalled_as(code: u32) -> Recalled
+fn recalled_as(code: u32) -> Option<Judgement>
     ensures { result ≡ recalled_as code }
 {
     if code == 0 {
-        return Recalled::Unknown;
+        return None;
     }
     if code == 1 {
-        return Recalled::Known(Judgement::False);
+        return Some(Judgement::False);
     }
     if code == 2 {
-        return Recalled::Known(Judgement::True);
+        return Some(Judgement::True);
     }
-    Recalled::Known(Judgement::Unresolved(code - 1))
+    Some(Judgement::Unresolved(code - 1))
 }
 
-pub fn recall(memo: &[u16], elements: u32, concept: ConceptId, e: Element) -> Recalled
+pub fn recall(memo: &[u16], elements: u32, concept: ConceptId, e: Element) -> Option<Judgement>
     requires { 0 < length memo.now }
     ensures { result ≡ recalled memo.now (key_of elements concept.0 e.0) }
 {
@@ -62,7 +55,7 @@ pub fn recall(memo: &[u16], elements: u32, concept: ConceptId, e: Element) -> Re
     let at = (k % room) as usize;
     let w = memo[at];
     if (w / 16) as u64 != k / room {
-        return Recalled::Unknown;
+        return None;
     }
     recalled_as((w % 16) as u32)
 }

@@ -11,6 +11,7 @@ ghost use Rattle.eval.specs.Verdict.{links, verdict};
 use crate::chains::check_composed;
 use crate::demand::{Demand, check_pairs};
 use crate::guarded::check_guarded;
+use crate::lent::Lent;
 use crate::shape::Shape;
 use crate::verdict::{Verdict, holds};
 use deck::numbers::{ConceptId, RoleWord};
@@ -151,7 +152,13 @@ pub fn check_symmetric(
     if role.is_inverse() {
         return Verdict::UnhandledAxiom(12, 1);
     }
-    check_guarded(deck, labels, edges, shape, role.role_id())
+    let lent = Lent {
+        deck,
+        labels,
+        edges,
+        shape,
+    };
+    check_guarded(lent, role.role_id())
 }
 
 // Both roles are to have no edges.
@@ -174,11 +181,17 @@ pub fn check_inverse_properties(
     if q.is_inverse() {
         return Verdict::UnhandledAxiom(8, 1);
     }
-    let first = check_guarded(deck, labels, edges, shape, p.role_id());
+    let lent = Lent {
+        deck,
+        labels,
+        edges,
+        shape,
+    };
+    let first = check_guarded(lent, p.role_id());
     if !holds(first) {
         return first;
     }
-    check_guarded(deck, labels, edges, shape, q.role_id())
+    check_guarded(lent, q.role_id())
 }
 
 // A chain a, b of named roles makes an edge of sup.

@@ -11,13 +11,13 @@ use Rattle.eval.proofs.IndexLaws.{walk-starts, ahead-on}
 use Rattle.eval.proofs.LeafLaws.{and_is, some_is, some-jump, edge-ends, some-skip, some-step, some-stop, recalled-is, equipped-with}
 use Rattle.eval.proofs.concepts.+eval_and_eval_concept_eval_some.Goals as goal
 
-pub eval_and-recall-known-requires : goal.eval_and-recall-known-requires
-eval_and-recall-known-requires t c =
+pub eval_and-recall-requires : goal.eval_and-recall-requires
+eval_and-recall-requires t c =
     c.requires.equipped.remembers.room
 
-pub eval_and-returns-in-Known : goal.eval_and-returns-in-Known
-eval_and-returns-in-Known t c =
-    record { is = recalled-is _ _ _ _ c.requires.equipped c.args.owner.0 c.args.e.0 c.requires.e_lt_elements c.recall-known.ensures _ c.in-Known.is; kept = c.requires.equipped }
+pub eval_and-returns-in-Some : goal.eval_and-returns-in-Some
+eval_and-returns-in-Some t c =
+    record { is = recalled-is _ _ _ _ c.requires.equipped c.args.owner.0 c.args.e.0 c.requires.e_lt_elements c.recall.ensures _ c.in-Some.is; kept = c.requires.equipped }
 
 pub eval_and-loop-i-init : goal.eval_and-loop-i-init
 eval_and-loop-i-init t c =
@@ -105,13 +105,13 @@ pub eval_concept-returns-in-Some : goal.eval_concept-returns-in-Some
 eval_concept-returns-in-Some t c =
     c.eval_some.ensures
 
-pub eval_some-recall-known-requires : goal.eval_some-recall-known-requires
-eval_some-recall-known-requires t c =
+pub eval_some-recall-requires : goal.eval_some-recall-requires
+eval_some-recall-requires t c =
     c.requires.equipped.remembers.room
 
-pub eval_some-returns-in-Known : goal.eval_some-returns-in-Known
-eval_some-returns-in-Known t c =
-    record { is = recalled-is _ _ _ _ c.requires.equipped c.args.owner.0 c.args.e.0 c.requires.e_lt_elements c.recall-known.ensures _ c.in-Known.is; kept = c.requires.equipped }
+pub eval_some-returns-in-Some : goal.eval_some-returns-in-Some
+eval_some-returns-in-Some t c =
+    record { is = recalled-is _ _ _ _ c.requires.equipped c.args.owner.0 c.args.e.0 c.requires.e_lt_elements c.recall.ensures _ c.in-Some.is; kept = c.requires.equipped }
 
 pub eval_some-loop-i-init : goal.eval_some-loop-i-init
 eval_some-loop-i-init t c =

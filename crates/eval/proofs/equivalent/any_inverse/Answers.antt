@@ -10,14 +10,6 @@ use Rattle.eval.proofs.EdgeWalks.{any-hit, any_step, any-end}
 use Rattle.eval.proofs.RoleLaws.{word_at, inverse-word}
 use Rattle.eval.proofs.equivalent.any_inverse.Goals as goal
 
-pub loop-i-init : goal.loop-i-init
-loop-i-init c =
-    (omega arith, refl)
-
-pub item-requires : goal.item-requires
-item-requires c =
-    record { accepted = c.requires.accepted; within = c.requires.list_fits.within; i_lt_count = omega arith }
-
 pub returns-then-is_inverse : goal.returns-then-is_inverse
 returns-then-is_inverse c =
     let l = c.args.list in
@@ -25,11 +17,7 @@ returns-then-is_inverse c =
     let h = list_length c.args.deck.now l.start l.count in
     let m = length-map ws role_of in
     let w = c.loop-i in
-    sym (w.invariant.1 ∙ any-hit (Role.Named 0) inverse (map role_of ws) w.i (omega (arith, h, m)) (ap inverse (word_at ws w.i) ∙ inverse-word (get_or ws w.i 0) ∙ rw c.item.ensures at (sym c.is_inverse.ensures ∙ c.if-is_inverse.true)))
-
-pub overflow_add-i : goal.overflow_add-i
-overflow_add-i c =
-    omega (arith, c.type_inv)
+    sym (w.invariant ∙ any-hit (Role.Named 0) inverse (map role_of ws) w.i (omega (arith, h, m)) (ap inverse (word_at ws w.i) ∙ inverse-word (get_or ws w.i 0) ∙ rw c.item.ensures at (sym c.is_inverse.ensures ∙ c.if-is_inverse.true)))
 
 pub loop-i-preserved : goal.loop-i-preserved
 loop-i-preserved c =
@@ -38,7 +26,7 @@ loop-i-preserved c =
     let h = list_length c.args.deck.now l.start l.count in
     let m = length-map ws role_of in
     let w = c.loop-i in
-    (omega arith, w.invariant.1 ∙ any_step (Role.Named 0) inverse (map role_of ws) w.i (omega (arith, h, m)) (ap inverse (word_at ws w.i) ∙ inverse-word (get_or ws w.i 0) ∙ rw c.item.ensures at (sym c.is_inverse.ensures ∙ c.if-is_inverse.false)))
+    (w.invariant ∙ any_step (Role.Named 0) inverse (map role_of ws) w.i (omega (arith, h, m)) (ap inverse (word_at ws w.i) ∙ inverse-word (get_or ws w.i 0) ∙ rw c.item.ensures at (sym c.is_inverse.ensures ∙ c.if-is_inverse.false)))
 
 pub returns : goal.returns
 returns c =
@@ -46,4 +34,4 @@ returns c =
     let ws = list_of c.args.deck.now l in
     let h = list_length c.args.deck.now l.start l.count in
     let m = length-map ws role_of in
-    sym (c.loop-i.invariant.1 ∙ any-end (Role.Named 0) inverse (map role_of ws) c.loop-i.i (omega (arith, h, m)))
+    sym (c.loop-i.invariant ∙ any-end (Role.Named 0) inverse (map role_of ws) c.loop-i.i (omega (arith, h, m)))

@@ -1,6 +1,5 @@
 use mathlib.Core.Path.{◌≡◌}
 use mathlib.Core.List.{map}
-use Prim.Native.Nat.{◌≤◌, ◌-◌}
 use lib.ListN.{drop}
 use Rattle.deck.specs.Deck.{role_of}
 use Rattle.deck.specs.Reads.{list_of}
@@ -9,7 +8,4 @@ use Rattle.eval.specs.Structure.{inverse, any_inverse}
 use Rattle.eval.proofs.equivalent.any_inverse.Given as goal
 
 abbrev pub invariant-loop-i : goal.invariant-loop-i
-invariant-loop-i l = (l.i ≤ l.count) × (any_inverse (map role_of (list_of l.deck l.list)) ≡ any (map inverse (drop l.i (map role_of (list_of l.deck l.list)))))
-
-abbrev pub decreases-loop-i : goal.decreases-loop-i
-decreases-loop-i l = l.count - l.i
+invariant-loop-i l = any_inverse (map role_of (list_of l.deck l.list)) ≡ any (map inverse (drop l.i (map role_of (list_of l.deck l.list))))

@@ -1,28 +1,18 @@
-use mathlib.Core.Path.{◌≡◌, sym, ◌∙◌}
+use mathlib.Core.Path.{refl, ◌∙◌}
 use native.Mathlib.Omega.{arith}
-use Rattle.deck.proofs.BelowLaws.{all_none, all_more, all-stops}
-use Rattle.eval.specs.Foreign.{labels_fit}
+use borrow.Author.Tests.{tests}
+use Rattle.std.proofs.Common.{rules}
+use Rattle.std.proofs.lemmas.Iterator.{YieldsList-from_range}
+use Rattle.std.proofs.lemmas.Iterator.Search.{all_from_yields_List}
+use Rattle.deck.specs.Content.{deck_of}
+use Rattle.eval.specs.Foreign.{label_fits, labels_fit}
+use Rattle.eval.proofs.ChainLaws.{all-range}
 use Rattle.eval.proofs.foreign.labels_fit.Goals as goal
-
-pub loop-e-init : goal.loop-e-init
-loop-e-init c =
-    (omega arith, all_none _)
-
-pub label_fits-requires : goal.label_fits-requires
-label_fits-requires c =
-    record { accepted = c.requires.accepted; deck_in_bounds = c.requires.deck_in_bounds; e_lt_elements = c.loop-e-test.true }
-
-pub returns-then-not-label_fits : goal.returns-then-not-label_fits
-unfolding labels_fit
-returns-then-not-label_fits c =
-    sym (all-stops _ c.loop-e.e _ c.loop-e-test.true (sym c.label_fits.ensures ∙ c.if-not-label_fits.true))
-
-pub loop-e-preserved : goal.loop-e-preserved
-loop-e-preserved c =
-    (omega arith, all_more _ _ c.loop-e.invariant.1 (sym c.label_fits.ensures ∙ c.if-not-label_fits.false))
 
 pub returns : goal.returns
 unfolding labels_fit
 returns c =
-    let e : c.loop-e.e ≡ c.args.shape.elements = omega arith in
-    sym (rw e at c.loop-e.invariant.1)
+    let a = c.args in
+    let p = label_fits (deck_of a.deck.now) a.labels.now in
+    let n = a.shape.elements in
+    all_from_yields_List p _ _ _ c.all.ensures.ran (YieldsList-from_range 0 n n refl (omega arith)) (λ x b q k. search (rules, tests)) ∙ all-range p n

@@ -4,8 +4,8 @@ use Rattle.eval.proofs.guarded.check_guarded.Goals as goal
 
 pub returns-then-has_any : goal.returns-then-has_any
 returns-then-has_any c =
-    guarded-hit _ _ _ _ c.requires.fits c.args.r.0 (sym c.has_any.ensures ∙ c.if-has_any.true)
+    guarded-hit _ _ _ _ c.args.lent.fits c.args.r.0 (sym c.has_any.ensures ∙ c.if-has_any.true)
 
 pub returns : goal.returns
 returns c =
-    guarded-free _ _ _ _ c.requires.fits c.args.r.0 (sym c.has_any.ensures ∙ c.if-has_any.false)
+    guarded-free _ _ _ _ c.args.lent.fits c.args.r.0 (sym c.has_any.ensures ∙ c.if-has_any.false)

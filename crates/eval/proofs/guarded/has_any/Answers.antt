@@ -1,34 +1,18 @@
-use mathlib.Core.Path.{refl, sym, ◌∙◌}
-use native.Mathlib.Omega.{arith}
-use Rattle.eval.specs.Edges.{edges_of}
-use Rattle.eval.proofs.EdgeWalks.{no_edge, edges-length, edges_at, any-hit, any_step, any-end}
+use mathlib.Core.Path.{◌∙◌}
+use borrow.Author.Tests.{tests}
+use lib.ListN.{take}
+use Rattle.std.proofs.Common.{rules}
+use Rattle.std.proofs.lemmas.Iterator.{YieldsList-from_slice}
+use Rattle.std.proofs.lemmas.Iterator.Search.{any_from_yields_List}
+use Rattle.deck.specs.Content.{deck_of}
+use Rattle.eval.specs.Edges.{edge_of, edges_of, under}
+use Rattle.eval.proofs.ChainLaws.{any-map}
 use Rattle.eval.proofs.guarded.has_any.Goals as goal
 
-pub loop-i-init : goal.loop-i-init
-loop-i-init c =
-    (omega arith, refl)
-
-pub edge_at-requires : goal.edge_at-requires
-edge_at-requires c =
-    omega (arith, c.requires.accepted, c.requires.r_bound, c.requires.count_in_bounds)
-
-pub is_sub_role-requires : goal.is_sub_role-requires
-is_sub_role-requires c =
-    record { accepted = c.requires.accepted; r_bound = c.requires.r_bound }
-
-pub returns-then-is_sub_role : goal.returns-then-is_sub_role
-returns-then-is_sub_role c =
-    let rows = c.args.edges.now in
-    let e = edges_at rows c.args.count c.loop-i.i (omega arith) c.requires.count_in_bounds in
-    sym (c.loop-i.invariant.1 ∙ any-hit no_edge _ (edges_of rows c.args.count) c.loop-i.i (omega (arith, edges-length rows c.args.count c.requires.count_in_bounds)) (rw e (rw c.edge_at.ensures at (sym c.is_sub_role.ensures ∙ c.if-is_sub_role.true))))
-
-pub loop-i-preserved : goal.loop-i-preserved
-loop-i-preserved c =
-    let rows = c.args.edges.now in
-    let e = edges_at rows c.args.count c.loop-i.i (omega arith) c.requires.count_in_bounds in
-    (omega arith, c.loop-i.invariant.1 ∙ any_step no_edge _ (edges_of rows c.args.count) c.loop-i.i (omega (arith, edges-length rows c.args.count c.requires.count_in_bounds)) (rw e (rw c.edge_at.ensures at (sym c.is_sub_role.ensures ∙ c.if-is_sub_role.false))))
-
 pub returns : goal.returns
+unfolding edges_of
 returns c =
-    let rows = c.args.edges.now in
-    sym (c.loop-i.invariant.1 ∙ any-end no_edge _ (edges_of rows c.args.count) c.loop-i.i (omega (arith, edges-length rows c.args.count c.requires.count_in_bounds)))
+    let a = c.args.lent in
+    let p = under (deck_of a.deck.now) c.args.r.0 in
+    let rows = take a.shape.edges a.edges.now in
+    any_from_yields_List (λ w. p (edge_of w)) _ _ _ c.any.ensures.ran (YieldsList-from_slice rows cc) (λ x b q k. search (rules, tests)) ∙ any-map p edge_of rows
