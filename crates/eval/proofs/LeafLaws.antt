@@ -16,7 +16,7 @@ use Rattle.deck.proofs.SoundLaws.{sound}
 use Rattle.eval.specs.declared.edges.Edge.{Edge}
 use Rattle.eval.specs.declared.judgement.Judgement.{Judgement}
 use Rattle.eval.specs.declared.judgement.Judgement.TheVariants.{True, Unresolved}
-use Rattle.std.proofs.Common.{Option, Some, None}
+use Rattle.std.proofs.Common.{Option, Some}
 use Rattle.eval.specs.declared.shape.Shape.{Shape}
 use Rattle.eval.specs.declared.standing.Standing.{Standing}
 use Rattle.eval.specs.Edges.{edge_of, edges_of, leaves, under}

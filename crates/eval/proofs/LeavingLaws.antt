@@ -1,14 +1,13 @@
 -- The edges that leave an element, from a position of the list on.
-use Prim.Native.Nat.{ℕ, suc, ◌+◌, ◌<◌, ◌≤◌}
+use Prim.Native.Nat.{ℕ, ◌+◌, ◌<◌, ◌≤◌}
 use mathlib.Core.Bool.{Bool, true, false, cond, ◌||◌}
-use mathlib.Core.Bool.{◌&&◌}
 use mathlib.Core.Logic.{◌⊎◌}
 use mathlib.Core.List.Memᴰ.{cases_cons}
 use mathlib.Core.List.Memᴰ.{head as here}
 use mathlib.Core.List.Memᴰ.{not-nil as nothing-in}
 use mathlib.Core.List.Memᴰ.{tail as there}
 use mathlib.Core.List.{List, [], ◌∷◌, map, Memᴰ as Member}
-use mathlib.Core.Path.{◌≡◌, refl, sym, ap, ◌∙◌}
+use mathlib.Core.Path.{◌≡◌, refl, ap, ◌∙◌}
 use native.Mathlib.Omega.{arith}
 use lib.ListN.{length, get_or, drop, drop_of_length-le}
 use lib.Dec.{eqb}
@@ -87,8 +86,8 @@ seen-leaving p f x es on S =
     let to : (e : Edge) → Among p (leaving x es) e → Among p es e = λ e m. record { member = in-filter at es e m.member; passes = m.passes } in
     let back : (e : Edge) → Among p es e → Among p (leaving x es) e = λ e m. record { member = filter-in at es e m.member (on e m.passes); passes = m.passes } in
     record {
-      fails = λ h. let m = S.fails h in record { edge = m.edge; met = to m.edge m.met; fails = m.fails; from_is = m.from_is; to_is = m.to_is; least = λ e q. m.least e (back e q) };
+      fails = λ d h. let m = S.fails d h in record { met = to d m.met; fails = m.fails; least = λ e q. m.least e (back e q) };
       sound = λ h e q. S.sound h e (back e q);
-      opens = λ h. let m = S.opens h in record { edge = m.edge; met = to m.edge m.met; unresolved = m.unresolved };
+      opens = λ t h. let m = S.opens t h in record { edge = m.edge; met = to m.edge m.met; unresolved = m.unresolved };
       closed = λ h e t q. S.closed h e t (back e q);
     }

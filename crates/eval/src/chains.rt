@@ -84,12 +84,10 @@ fn check_onward(
     ensures { result ≡ onward (deck_of deck.now) (structure_of (deck_of deck.now) labels.now edges.now shape) b.0 sup.0 x.0 y.0 }
 {
     let lowest = lowest_onward(deck, labels, edges, shape, index, b, sup, x, y);
-    let found = lowest.found;
-    if found {
-        let to = lowest.to;
-        return Verdict::Fails(Witnesses::Three(x, y, to));
+    match lowest.failing {
+        Some(e) => Verdict::Fails(Witnesses::Three(x, y, e.to)),
+        None => Verdict::Holds,
     }
-    Verdict::Holds
 }
 
 // The lowest edge of a from which an edge of b goes on to an end that is no edge of sup.
@@ -144,19 +142,8 @@ pub fn check_composed(
     ensures { result ≡ composed (deck_of deck.now) (structure_of (deck_of deck.now) labels.now edges.now shape) a.0 b.0 sup.0 }
 {
     let lowest = lowest_composed(deck, labels, edges, shape, index, a, b, sup);
-    let found = lowest.found;
-    if found {
-        return check_onward(
-            deck,
-            labels,
-            edges,
-            shape,
-            index,
-            b,
-            sup,
-            lowest.from,
-            lowest.to,
-        );
+    match lowest.failing {
+        Some(e) => check_onward(deck, labels, edges, shape, index, b, sup, e.from, e.to),
+        None => Verdict::Holds,
     }
-    Verdict::Holds
 }

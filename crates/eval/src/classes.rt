@@ -101,7 +101,7 @@ pub fn check_sub_class_of(
         }
         e += 1;
     }
-    unresolved_or_holds(standing)
+    unresolved_or_holds(standing.noted)
 }
 
 // The judgements of the concepts of a list at e, counted.
@@ -156,7 +156,7 @@ pub fn check_equivalent_classes(
         }
         e += 1;
     }
-    unresolved_or_holds(standing)
+    unresolved_or_holds(standing.noted)
 }
 
 pub fn check_disjoint_classes(
@@ -185,5 +185,5 @@ pub fn check_disjoint_classes(
         }
         e += 1;
     }
-    unresolved_or_holds(standing)
+    unresolved_or_holds(standing.noted)
 }

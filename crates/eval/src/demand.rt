@@ -15,7 +15,7 @@ use crate::edges::{Edge, edge_by, has_pair, is_sub_role};
 use crate::judgement::Judgement;
 use crate::lowest::Lowest;
 use crate::shape::Shape;
-use crate::verdict::{Verdict, Witnesses};
+use crate::verdict::{Verdict, Witnesses, unresolved_or_holds};
 use deck::numbers::{ConceptId, Element, RoleWord};
 
 // The from or the to is in a concept, or the pair is one of another role word.
@@ -126,13 +126,8 @@ pub fn check_pairs(
     ensures kept { Equipped deck.now labels.now edges.now shape index.now memo.new }
 {
     let lowest = lowest_failing(deck, labels, edges, shape, index, memo, role, demand);
-    let found = lowest.found;
-    let noted = lowest.noted;
-    if found {
-        return Verdict::Fails(blame_at(demand, lowest.from, lowest.to));
+    match lowest.failing {
+        Some(e) => Verdict::Fails(blame_at(demand, e.from, e.to)),
+        None => unresolved_or_holds(lowest.noted),
     }
-    if noted {
-        return Verdict::UnhandledConcept(lowest.tag);
-    }
-    Verdict::Holds
 }

@@ -2,7 +2,7 @@
 ghost use Rattle.std.specs.Prelude.{◌&&◌, ◌≡◌, ◌*◌, ◌<◌, ltb};
 ghost use Rattle.deck.specs.Content.{deck_of};
 ghost use Rattle.deck.specs.Deck.{concept_count, axiom_count, axiom_at};
-ghost use Rattle.eval.specs.Equipped.{Blank, Equipped};
+ghost use Rattle.eval.specs.Equipped.{Blank, Equipped, Room};
 ghost use Rattle.eval.specs.Judge.{judge};
 ghost use Rattle.eval.specs.Justified.{Justified};
 ghost use Rattle.eval.specs.Lent.{Fits, structure_of};
@@ -65,7 +65,9 @@ fn concept_over(
     eval_concept(deck, labels, edges, shape, index, memo, concept, e)
 }
 
-fn concept_small(
+// The same in a room of its own, of I words for the index and M for the table: it is made only for a structure that needs it.
+#[inline(never)]
+fn concept_in_room<const I: usize, const M: usize>(
     deck: &[u8],
     labels: &[u64],
     edges: &[[u32; 3]],
@@ -73,42 +75,17 @@ fn concept_small(
     concept: ConceptId,
     e: Element,
 ) -> Judgement
+    requires room { Room I M }
     requires fits { Fits deck.now labels.now edges.now shape }
     requires concept_bound { concept.0 < concept_count (deck_of deck.now) }
     requires e_lt_elements { e.0 < shape.elements }
     ensures is { result ≡ judge (deck_of deck.now) (structure_of (deck_of deck.now) labels.now edges.now shape) concept.0 e.0 }
 {
-    let mut index: [u32; 2048] = [0; 2048];
-    let mut memo: [u16; 2039] = [0; 2039];
+    let mut index: [u32; I] = [0; I];
+    let mut memo: [u16; M] = [0; M];
     concept_over(
         deck, labels, edges, shape, &mut index, &mut memo, concept, e,
     )
-}
-
-// Here and in `axiom_large` the last call is never made, as there are at most 65,536 elements: a function that calls itself has
-// a frame of its own, so that its room, of 1.2 MB, is made only for a structure that needs it.
-fn concept_large(
-    deck: &[u8],
-    labels: &[u64],
-    edges: &[[u32; 3]],
-    shape: Shape,
-    concept: ConceptId,
-    e: Element,
-) -> Judgement
-    requires fits { Fits deck.now labels.now edges.now shape }
-    requires concept_bound { concept.0 < concept_count (deck_of deck.now) }
-    requires e_lt_elements { e.0 < shape.elements }
-    ensures is { result ≡ judge (deck_of deck.now) (structure_of (deck_of deck.now) labels.now edges.now shape) concept.0 e.0 }
-{
-    let mut index: [u32; 163843] = [0; 163843];
-    let mut memo: [u16; 262139] = [0; 262139];
-    let judgement = concept_over(
-        deck, labels, edges, shape, &mut index, &mut memo, concept, e,
-    );
-    if 65536 < shape.elements {
-        return concept_large(deck, labels, edges, shape, concept, e);
-    }
-    judgement
 }
 
 // Is element e in the concept?
@@ -126,9 +103,9 @@ pub fn judge_concept(
     ensures is { result ≡ judge (deck_of deck.now) (structure_of (deck_of deck.now) labels.now edges.now shape) concept.0 e.0 }
 {
     if is_small(shape, concept.0) {
-        return concept_small(deck, labels, edges, shape, concept, e);
+        return concept_in_room::<2048, 2039>(deck, labels, edges, shape, concept, e);
     }
-    concept_large(deck, labels, edges, shape, concept, e)
+    concept_in_room::<163843, 262139>(deck, labels, edges, shape, concept, e)
 }
 
 // Is the axiom satisfied? In a given room.
@@ -151,30 +128,23 @@ fn axiom_over(
     check_axiom(deck, labels, edges, shape, index, memo, axiom)
 }
 
-fn axiom_small(deck: &[u8], labels: &[u64], edges: &[[u32; 3]], shape: Shape, axiom: u32) -> Verdict
+#[inline(never)]
+fn axiom_in_room<const I: usize, const M: usize>(
+    deck: &[u8],
+    labels: &[u64],
+    edges: &[[u32; 3]],
+    shape: Shape,
+    axiom: u32,
+) -> Verdict
+    requires room { Room I M }
     requires fits { Fits deck.now labels.now edges.now shape }
     requires axiom_bound { «axiom» < axiom_count (deck_of deck.now) }
     ensures is { result ≡ verdict (deck_of deck.now) (structure_of (deck_of deck.now) labels.now edges.now shape) (axiom_at (deck_of deck.now) «axiom») }
     ensures justified { Justified (deck_of deck.now) (structure_of (deck_of deck.now) labels.now edges.now shape) (axiom_at (deck_of deck.now) «axiom») result }
 {
-    let mut index: [u32; 2048] = [0; 2048];
-    let mut memo: [u16; 2039] = [0; 2039];
+    let mut index: [u32; I] = [0; I];
+    let mut memo: [u16; M] = [0; M];
     axiom_over(deck, labels, edges, shape, &mut index, &mut memo, axiom)
-}
-
-fn axiom_large(deck: &[u8], labels: &[u64], edges: &[[u32; 3]], shape: Shape, axiom: u32) -> Verdict
-    requires fits { Fits deck.now labels.now edges.now shape }
-    requires axiom_bound { «axiom» < axiom_count (deck_of deck.now) }
-    ensures is { result ≡ verdict (deck_of deck.now) (structure_of (deck_of deck.now) labels.now edges.now shape) (axiom_at (deck_of deck.now) «axiom») }
-    ensures justified { Justified (deck_of deck.now) (structure_of (deck_of deck.now) labels.now edges.now shape) (axiom_at (deck_of deck.now) «axiom») result }
-{
-    let mut index: [u32; 163843] = [0; 163843];
-    let mut memo: [u16; 262139] = [0; 262139];
-    let verdict = axiom_over(deck, labels, edges, shape, &mut index, &mut memo, axiom);
-    if 65536 < shape.elements {
-        return axiom_large(deck, labels, edges, shape, axiom);
-    }
-    verdict
 }
 
 // Is the axiom satisfied?
@@ -191,7 +161,7 @@ pub fn judge_axiom(
     ensures justified { Justified (deck_of deck.now) (structure_of (deck_of deck.now) labels.now edges.now shape) (axiom_at (deck_of deck.now) «axiom») result }
 {
     if is_small(shape, concept_count(deck)) {
-        return axiom_small(deck, labels, edges, shape, axiom);
+        return axiom_in_room::<2048, 2039>(deck, labels, edges, shape, axiom);
     }
-    axiom_large(deck, labels, edges, shape, axiom)
+    axiom_in_room::<163843, 262139>(deck, labels, edges, shape, axiom)
 }

@@ -154,8 +154,15 @@ fn add_run(index: &mut [u32], elements: u32, m: u32, x: Element, i: u32, h: u32)
     set_word(index, 3 + x.0 as usize, m);
 }
 
-// Edge i comes in: at the front of the run after it, or as a run of its own. The number of runs; 0 without room for one.
-fn enter(edges: &[[u32; 3]], count: u32, index: &mut [u32], elements: u32, i: u32, runs: u32) -> u32
+// Edge i comes in: at the front of the run after it, or as a run of its own. The number of runs, if there is room.
+fn enter(
+    edges: &[[u32; 3]],
+    count: u32,
+    index: &mut [u32],
+    elements: u32,
+    i: u32,
+    runs: u32,
+) -> Option<u32>
     requires count_in_bounds { count ≤ length edges.now }
     requires i_lt_count { i < count }
     requires i_bound { from_at edges.now i < elements }
@@ -167,13 +174,13 @@ fn enter(edges: &[[u32; 3]], count: u32, index: &mut [u32], elements: u32, i: u3
     let h = word_at(index, 3 + x.0 as usize);
     if follows(edges, index, elements, h, i as usize) {
         set_word(index, 1 + elements as usize + 2 * (h as usize), i);
-        return runs;
+        return Some(runs);
     }
     if index.len() < 5 + elements as usize + 2 * (runs as usize) {
-        return 0;
+        return None;
     }
     add_run(index, elements, runs + 1, x, i, h);
-    runs + 1
+    Some(runs + 1)
 }
 
 // Edges come in from the last one down, while there is room.
@@ -183,23 +190,14 @@ fn fill(edges: &[[u32; 3]], count: u32, index: &mut [u32], elements: u32) -> Fil
     requires built { Built edges.now elements count count 0 index.old }
     ensures { (length index.new ≡ length index.old) × Built edges.now elements count result.low result.used index.new }
 {
-    let mut low = count;
     let mut used = 0;
-    while 0 < low {
-        let runs = enter(edges, count, index, elements, low - 1, used);
-        if runs == 0 {
-            return Filled {
-                low: low,
-                used: used,
-            };
+    for i in (0..count).rev() {
+        match enter(edges, count, index, elements, i, used) {
+            Some(runs) => used = runs,
+            None => return Filled { low: i + 1, used },
         }
-        low -= 1;
-        used = runs;
     }
-    Filled {
-        low: low,
-        used: used,
-    }
+    Filled { low: 0, used }
 }
 
 // The index of the first `count` edges. Without room for all runs it leaves out the oldest edges, and covers none where

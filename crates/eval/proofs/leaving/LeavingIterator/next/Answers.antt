@@ -1,5 +1,4 @@
 use Prim.Native.Nat.{suc, ◌+◌}
-use native.Mathlib.Omega.{arith}
 use mathlib.Core.Path.{◌≡◌, ap, ◌∙◌}
 use lib.ListN.{length, drop}
 use Rattle.std.proofs.Common.{rules}
