@@ -1,7 +1,7 @@
 -- The edges that leave an element, from a position of the list on.
 use Prim.Native.Nat.{ℕ, ◌+◌, ◌<◌, ◌≤◌}
 use mathlib.Core.Bool.{Bool, true, false, cond, ◌||◌}
-use mathlib.Core.Logic.{◌⊎◌}
+use mathlib.Core.Logic.{◌⊎◌, ⊎_elim}
 use mathlib.Core.List.Memᴰ.{cases_cons}
 use mathlib.Core.List.Memᴰ.{head as here}
 use mathlib.Core.List.Memᴰ.{not-nil as nothing-in}
@@ -11,7 +11,7 @@ use mathlib.Core.Path.{◌≡◌, refl, ap, ◌∙◌}
 use native.Mathlib.Omega.{arith}
 use lib.ListN.{length, get_or, drop, drop_of_length-le}
 use lib.Dec.{eqb}
-use borrow.Author.Tests.{ne_eqb, eq-eqb, eqb-false}
+use borrow.Author.Tests.{ne_eqb, eq-eqb, eqb-true, eqb-false}
 use Rattle.std.specs.List.{filter, list_any}
 use Rattle.eval.specs.declared.edges.Edge.{Edge}
 use Rattle.eval.specs.Edges.{edge_of, edges_of}
@@ -24,6 +24,7 @@ use Rattle.eval.specs.declared.lowest.Lowest.{Lowest}
 use Rattle.eval.proofs.Clash.{clash}
 use Rattle.eval.proofs.EdgeWalks.{no_edge, edges-length, edges_at}
 use Rattle.eval.proofs.IndexLaws.{climb}
+use Rattle.eval.proofs.ListLaws.{member-at}
 use Rattle.eval.proofs.Walks.{list-step}
 
 filter-skip : {A : Type 0} (p : A → Bool) (x : A) (xs : List A) → p x ≡ false → filter p (x ∷ xs) ≡ filter p xs
@@ -67,7 +68,7 @@ filter-in {A} p (x ∷ xs) a m e = go (p x) refl (cases_cons m) (λ n. filter-in
     go false q (◌⊎◌.inl i) ih = clash (cc)
     go false q (◌⊎◌.inr n) ih = ih n
 
-in-filter : {A : Type 0} (p : A → Bool) (xs : List A) (a : A) → Member a (filter p xs) → Member a xs
+pub in-filter : {A : Type 0} (p : A → Bool) (xs : List A) (a : A) → Member a (filter p xs) → Member a xs
 in-filter p [] a m = m
 in-filter {A} p (x ∷ xs) a m = go (p x) m (in-filter p xs a)
   where
@@ -78,6 +79,25 @@ in-filter {A} p (x ∷ xs) a m = go (p x) m (in-filter p xs a)
         later (◌⊎◌.inl i) = here i
         later (◌⊎◌.inr n) = there (ih n)
     go false m ih = there (ih m)
+
+passes-filter : {A : Type 0} (p : A → Bool) (xs : List A) (a : A) → Member a (filter p xs) → p a ≡ true
+passes-filter p [] a m = absurd (nothing-in m)
+passes-filter {A} p (x ∷ xs) a m = go (p x) refl m (passes-filter p xs a)
+  where
+    go : (b : Bool) → p x ≡ b → Member a (cond b (x ∷ filter p xs) (filter p xs)) → (Member a (filter p xs) → p a ≡ true) → p a ≡ true
+    go true q m ih = ⊎_elim (λ (e : a ≡ x). ap p e ∙ q) ih (cases_cons m)
+    go false q m ih = ih m
+
+-- the edge at position i of those that leave x
+module _ (x : ℕ) (es : List Edge) (i : ℕ) (e : Edge) (h : i < length (leaving x es)) (is : get_or (leaving x es) i e ≡ e) where
+  there-in : Member e (leaving x es)
+  there-in = rw is at (member-at e (leaving x es) i h)
+
+  pub leaves-from : e.from.0 ≡ x
+  leaves-from = eqb-true e.from.0 x (passes-filter (λ (d : Edge). eqb d.from.0 x) es e there-in)
+
+  pub leaves-in : Member e es
+  leaves-in = in-filter (λ (d : Edge). eqb d.from.0 x) es e there-in
 
 -- what was seen among the edges that leave x was seen among all, by a test that only those pass
 pub seen-leaving : (p : Edge → Bool) (f : Edge → Judgement) (x : ℕ) (es : List Edge) → ((e : Edge) → p e ≡ true → eqb e.from.0 x ≡ true) → {l : Lowest} → Seen (Among p (leaving x es)) f l → Seen (Among p es) f l

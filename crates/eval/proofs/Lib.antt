@@ -36,3 +36,4 @@ pub mod ChainLaws
 pub mod ForeignLaws
 pub mod EntryLaws
 pub mod LeavingLaws
+mod RelationLaws

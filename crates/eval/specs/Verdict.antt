@@ -163,6 +163,11 @@ chain D S (a ∷ b ∷ c ∷ l) sup = UnhandledAxiom 5 2
 abbrev pub across : Deck → Structure → Role → Role → Verdict
 across D S a b = cond (eqb (role_id a) (role_id b)) Holds (within D S a b)
 
+-- the same, or, turned, the pairs of the other in the one
+abbrev pub across_by : Bool → Deck → Structure → Role → Role → Verdict
+across_by false D S = across D S
+across_by true D S = λ a b. across D S b a
+
 -- each ordered pair of members
 unfoldable pub equivalent : Deck → Structure → List Role → Verdict
 equivalent D S l = in_turn (map (λ a. in_turn (map (across D S a) l)) l)

@@ -14,6 +14,17 @@ pub struct Walk {
     pub run: u32,
 }
 
+// The first `count` edges, with an index of them.
+#[derive(Clone, Copy)]
+pub struct EdgeIndex<'a> {
+    pub edges: &'a [[u32; 3]],
+    pub count: u32,
+    pub index: &'a [u32],
+    pub elements: u32,
+    pub ghost within: { count ≤ length edges.now },
+    pub ghost indexed: { Indexed edges.now elements count index.now },
+}
+
 // How many edges are not in the index, at the front, and how many runs it has.
 #[derive(Clone, Copy)]
 struct Filled {
@@ -51,66 +62,49 @@ pub fn walk_of(index: &[u32], x: Element) -> Walk
     }
 }
 
-// The run to come after s, where `run` starts: the next of x, if the edge at s leaves x.
-fn run_after(
-    edges: &[[u32; 3]],
-    count: u32,
-    index: &[u32],
-    elements: u32,
-    x: Element,
-    run: u32,
-    s: usize,
-) -> u32
-    requires count_in_bounds { count ≤ length edges.now }
-    requires indexed { Indexed edges.now elements count index.now }
-    requires run_bound { run ≤ used index.now }
-    requires s_value { s ≡ stop_of elements index.now run }
-    ensures { Ahead edges.now elements index.now x.0 s result }
-{
-    if run != 0 {
-        let e = edge_at(edges, s);
-        if e.from.0 == x.0 {
-            return word_at(index, 2 + elements as usize + 2 * (run as usize));
+impl EdgeIndex<'_> {
+    // The run to come after s, where `run` starts: the next of x, if the edge at s leaves x.
+    fn run_after(&self, x: Element, run: u32, s: usize) -> u32
+        requires run_bound { run ≤ used self.now.index.now }
+        requires s_value { s ≡ stop_of self.now.elements self.now.index.now run }
+        ensures { Ahead self.now.edges.now self.now.elements self.now.index.now x.0 s result }
+    {
+        if run != 0 {
+            if edge_at(self.edges, s).from == x {
+                return word_at(self.index, 2 + self.elements as usize + 2 * (run as usize));
+            }
         }
+        run
     }
-    run
+
+    // From an edge that does not leave x to the next that may.
+    pub fn jump(&self, x: Element, w: Walk) -> Walk
+        requires at_lt_count { w.at < self.now.count }
+        requires fact { from_at self.now.edges.now w.at ≡ x.0 → ⊥ }
+        requires ahead { Ahead self.now.edges.now self.now.elements self.now.index.now x.0 w.at w.run }
+        ensures { Jumped self.now.edges.now self.now.elements self.now.count self.now.index.now x.0 w.at result }
+    {
+        let at = w.at;
+        let run = w.run;
+        if at < word_at(self.index, 0) as usize {
+            return Walk {
+                at: at + 1,
+                run: run,
+            };
+        }
+        let s = stop_of(self.index, self.elements, run) as usize;
+        let next = self.run_after(x, run, s);
+        if s <= at {
+            return Walk {
+                at: at + 1,
+                run: next,
+            };
+        }
+        Walk { at: s, run: next }
+    }
 }
 
-// From an edge that does not leave x to the next that may.
-pub fn jump(
-    edges: &[[u32; 3]],
-    count: u32,
-    index: &[u32],
-    elements: u32,
-    x: Element,
-    w: Walk,
-) -> Walk
-    requires count_in_bounds { count ≤ length edges.now }
-    requires indexed { Indexed edges.now elements count index.now }
-    requires at_lt_count { w.at < count }
-    requires fact { from_at edges.now w.at ≡ x.0 → ⊥ }
-    requires ahead { Ahead edges.now elements index.now x.0 w.at w.run }
-    ensures { Jumped edges.now elements count index.now x.0 w.at result }
-{
-    let at = w.at;
-    let run = w.run;
-    if at < word_at(index, 0) as usize {
-        return Walk {
-            at: at + 1,
-            run: run,
-        };
-    }
-    let s = stop_of(index, elements, run) as usize;
-    let next = run_after(edges, count, index, elements, x, run, s);
-    if s <= at {
-        return Walk {
-            at: at + 1,
-            run: next,
-        };
-    }
-    Walk { at: s, run: next }
-}
-
+// While an index is made, what changes in it is passed as it is: a struct that lends it would be no plainer.
 fn set_word(index: &mut [u32], i: usize, w: u32)
     requires { i < length index.old }
     ensures { index.new ≡ set index.old i w }
@@ -140,7 +134,7 @@ fn follows(edges: &[[u32; 3]], index: &[u32], elements: u32, h: u32, i: usize) -
     if edges.len() <= i + 1 {
         return false;
     }
-    edge_at(edges, i + 1).from.0 == edge_at(edges, i).from.0
+    edge_at(edges, i + 1).from == edge_at(edges, i).from
 }
 
 // Run m of x, at the front of the others: it starts at edge i, and run h comes next.

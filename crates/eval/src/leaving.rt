@@ -1,21 +1,11 @@
 // The edges that leave an element, in the order of the list.
-ghost use Rattle.std.specs.Prelude.{◌≤◌, length};
-ghost use Rattle.eval.specs.Index.{Ahead, Indexed};
+ghost use Rattle.std.specs.Prelude.{◌≤◌};
+ghost use Rattle.eval.specs.Index.{Ahead};
 
 use crate::edges::{Edge, edge_at};
-use crate::index::{Walk, jump, walk_of};
+use crate::index::{EdgeIndex, Walk, walk_of};
+use crate::lent::Judging;
 use deck::numbers::Element;
-
-// The first `count` edges, with an index of them by where they leave.
-#[derive(Clone, Copy)]
-pub struct EdgeIndex<'a> {
-    pub edges: &'a [[u32; 3]],
-    pub count: u32,
-    pub index: &'a [u32],
-    pub elements: u32,
-    ghost within: { count ≤ length edges.now },
-    ghost indexed: { Indexed edges.now elements count index.now },
-}
 
 #[derive(Drop)]
 pub struct Leaving<'a> {
@@ -33,31 +23,56 @@ impl<'a> EdgeIndex<'a> {
     ghost use Rattle.eval.specs.Leaving.{leaving, left};
 
     // The walk at the next edge that leaves x, or at the end.
-    fn advance(self, x: Element, walk: Walk) -> Walk
-        requires at_in_bounds { walk.at ≤ self.count }
-        requires ahead { Ahead self.edges.now self.elements self.index.now x.0 walk.at walk.run }
-        ensures { Advanced self.entry.edges.now self.entry.elements self.entry.count self.entry.index.now x.0 walk.at result }
+    fn advance(&self, x: Element, walk: Walk) -> Walk
+        requires at_in_bounds { walk.at ≤ self.now.count }
+        requires ahead { Ahead self.now.edges.now self.now.elements self.now.index.now x.0 walk.at walk.run }
+        ensures { Advanced self.now.edges.now self.now.elements self.now.count self.now.index.now x.0 walk.at result }
     {
         let count = self.count as usize;
         let mut w = walk;
         while w.at < count {
-            if edge_at(self.edges, w.at).from.0 == x.0 {
+            if edge_at(self.edges, w.at).from == x {
                 return w;
             }
-            w = jump(self.edges, self.count, self.index, self.elements, x, w);
+            w = self.jump(x, w);
         }
         w
     }
 
-    pub fn leaving(self, x: Element) -> Leaving<'a>
-        requires { x.0 < self.elements }
-        ensures { left result ≡ leaving x.0 (edges_of self.entry.edges.now self.entry.count) }
+    pub fn leaving(&self, x: Element) -> Leaving<'a>
+        requires { x.0 < self.now.elements }
+        ensures { left result ≡ leaving x.0 (edges_of self.now.edges.now self.now.count) }
     {
         Leaving {
-            of: self,
+            of: *self,
             x: x,
             walk: walk_of(self.index, x),
         }
+    }
+}
+
+impl<'a> Judging<'a> {
+    ghost use Rattle.std.specs.Prelude.{◌≡◌, ◌<◌};
+    ghost use Rattle.eval.specs.InLent.{edges_in};
+    ghost use Rattle.eval.specs.Leaving.{leaving, left};
+
+    pub fn edge_index(&self) -> EdgeIndex<'a>
+        ensures { (result.edges.now ≡ self.now.lent.edges.now) × (result.count ≡ self.now.lent.shape.edges) × (result.index.now ≡ self.now.index.now) × (result.elements ≡ self.now.lent.shape.elements) }
+    {
+        EdgeIndex {
+            edges: self.lent.edges,
+            count: self.lent.shape.edges,
+            index: self.index,
+            elements: self.lent.shape.elements,
+        }
+    }
+
+    // The edges that leave x.
+    pub fn leaving(&self, x: Element) -> Leaving<'a>
+        requires { x.0 < self.now.lent.shape.elements }
+        ensures { left result ≡ leaving x.0 (edges_in self.now.lent) }
+    {
+        self.edge_index().leaving(x)
     }
 }
 

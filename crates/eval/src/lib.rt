@@ -2,6 +2,7 @@
 #![tactic(auto)]
 
 pub mod axioms;
+pub mod bytes;
 mod chains;
 mod classes;
 mod concepts;
@@ -16,7 +17,7 @@ pub mod index;
 pub mod judgement;
 pub mod labels;
 mod leaving;
-mod lent;
+pub mod lent;
 mod lowest;
 mod memo;
 mod roles;

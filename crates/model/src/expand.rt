@@ -29,7 +29,7 @@ use deck::classes::class_count;
 use deck::facts::{fact_at, fact_count};
 use deck::numbers::{ClassId, Element, RoleId};
 use eval::edges::Edge;
-use eval::labels::has_class;
+use eval::bytes::has_class;
 
 // The tally after one more reason.
 fn note(log: &mut [u32], t: Tally, reason: Reason) -> Tally

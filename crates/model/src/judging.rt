@@ -14,8 +14,8 @@ ghost use Rattle.model.specs.Run.{verdicts_in, words_in};
 use crate::outcome::Outcome;
 use deck::axioms::{axiom_at, axiom_count};
 use deck::concepts::concept_count;
-use eval::axioms::check_axiom;
-use eval::equip::{equip, is_small};
+use eval::bytes::{check_axiom, equip};
+use eval::equip::is_small;
 use eval::shape::Shape;
 use eval::verdict::{Verdict, verdict_words};
 

@@ -16,6 +16,6 @@ pub returns : goal.returns
 unfolding edges_fit
 returns c =
     let a = c.args in
-    let p = λ (w : List ℕ). edge_fits (deck_of a.deck.now) a.shape.elements (edge_of w) in
+    let p = λ (w : List ℕ). edge_fits (deck_of a.deck.now.bytes.now) a.shape.elements (edge_of w) in
     let n = a.shape.edges in
     all_from_yields_List p _ _ _ c.all.ensures.ran (YieldsList-from_slice (take n a.edges.now) cc) (λ x b q k. search (rules, tests)) ∙ all-rows p [] a.edges.now n c.requires.edges_in_bounds

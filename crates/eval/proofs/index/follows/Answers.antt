@@ -25,5 +25,5 @@ returns c =
     λ e. record {
       some = omega (arith, c.if-h-eq0.false);
       after = sym (stop-some (high index) (start n index) c.if-h-eq0.false) ∙ sym c.stop_of.ensures ∙ c.if-stop_of-i.false;
-      same = rw (c.edge_at.ensures, c.edge_at-2.ensures) at (eqb-true c.edge_at.result.from.0 c.edge_at-2.result.from.0 e);
+      same = rw (c.edge_at.ensures, c.edge_at-2.ensures) at (eqb-true c.edge_at.result.from.0 c.edge_at-2.result.from.0 (sym c.eq.ensures ∙ e));
     }
