@@ -36,10 +36,7 @@ struct Filled {
 fn word_at(index: &[u32], i: usize) -> u32
     ensures { result ≡ get_or index.now i 0 }
 {
-    if i < index.len() {
-        return index[i];
-    }
-    0
+    index.get(i).copied().unwrap_or(0)
 }
 
 // Where run m starts; for 0 where the covered edges end.
@@ -84,23 +81,18 @@ impl EdgeIndex<'_> {
         requires ahead { Ahead self.now.edges.now self.now.elements self.now.index.now x.0 w.at w.run }
         ensures { Jumped self.now.edges.now self.now.elements self.now.count self.now.index.now x.0 w.at result }
     {
-        let at = w.at;
-        let run = w.run;
-        if at < word_at(self.index, 0) as usize {
+        if w.at < word_at(self.index, 0) as usize {
             return Walk {
-                at: at + 1,
-                run: run,
+                at: w.at + 1,
+                run: w.run,
             };
         }
-        let s = stop_of(self.index, self.elements, run) as usize;
-        let next = self.run_after(x, run, s);
-        if s <= at {
-            return Walk {
-                at: at + 1,
-                run: next,
-            };
+        let s = stop_of(self.index, self.elements, w.run) as usize;
+        let run = self.run_after(x, w.run, s);
+        if s <= w.at {
+            return Walk { at: w.at + 1, run };
         }
-        Walk { at: s, run: next }
+        Walk { at: s, run }
     }
 }
 
@@ -125,16 +117,10 @@ fn follows(edges: &[[u32; 3]], index: &[u32], elements: u32, h: u32, i: usize) -
     requires { i < length edges.now }
     ensures { result ≡ true → Follows edges.now elements index.now h i }
 {
-    if h == 0 {
-        return false;
-    }
-    if stop_of(index, elements, h) as usize != i + 1 {
-        return false;
-    }
-    if edges.len() <= i + 1 {
-        return false;
-    }
-    edge_at(edges, i + 1).from == edge_at(edges, i).from
+    h != 0
+        && stop_of(index, elements, h) as usize == i + 1
+        && i + 1 < edges.len()
+        && edge_at(edges, i + 1).from == edge_at(edges, i).from
 }
 
 // Run m of x, at the front of the others: it starts at edge i, and run h comes next.

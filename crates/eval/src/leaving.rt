@@ -22,7 +22,7 @@ impl<'a> EdgeIndex<'a> {
     ghost use Rattle.eval.specs.Index.{Advanced};
     ghost use Rattle.eval.specs.Leaving.{leaving, left};
 
-    // The walk at the next edge that leaves x, or at the end.
+    // The walk at the next edge that leaves x, or at the end. A `while`, as it goes on by jumps and not edge by edge.
     fn advance(&self, x: Element, walk: Walk) -> Walk
         requires at_in_bounds { walk.at ≤ self.now.count }
         requires ahead { Ahead self.now.edges.now self.now.elements self.now.index.now x.0 walk.at walk.run }

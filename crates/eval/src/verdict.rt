@@ -57,11 +57,5 @@ pub fn unresolved_or_holds(noted: Option<u32>) -> Verdict
 pub fn holds(verdict: Verdict) -> bool
     ensures { result ≡ is_holds verdict }
 {
-    match verdict {
-        Verdict::Holds => true,
-        Verdict::Fails(_) => false,
-        Verdict::UnhandledAxiom(_, _) => false,
-        Verdict::UnhandledConcept(_) => false,
-        Verdict::GuardedRoleHasEdges(_) => false,
-    }
+    matches!(verdict, Verdict::Holds)
 }
