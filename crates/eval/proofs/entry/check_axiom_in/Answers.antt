@@ -14,10 +14,6 @@ returns-then-axiom-axiom_count c =
     let n = rw W.deck at c.axiom_count.ensures.is in
     let p = axiom-absent _ _ _ _ _ W.answer (omega (arith, n, c.if-axiom-axiom_count.true)) in record { is = p.0; justified = p.1 }
 
-pub judge_axiom-requires : goal.judge_axiom-requires
-judge_axiom-requires c =
-    record { axiom_bound = omega (arith, c.axiom_count.ensures.is, c.if-axiom-axiom_count.false) }
-
 pub returns : goal.returns
 returns c =
     let W = c.in_ok-lent.ensures.read in

@@ -1,7 +1,6 @@
-use mathlib.Core.Path.{refl, ap}
+use mathlib.Core.Path.{refl}
 use native.Mathlib.Omega.{arith}
 use Rattle.deck.proofs.AnswerLaws.{handed_on}
-use Rattle.eval.specs.declared.shape.Shape.{Shape}
 use Rattle.eval.proofs.EntryLaws.{concept-refused, concept-absent, element-absent, concept-judged}
 use Rattle.eval.proofs.entry.eval_concept_in.Goals as goal
 
@@ -18,11 +17,6 @@ returns-then-concept-concept_count c =
 pub returns-then-element-elements : goal.returns-then-element-elements
 returns-then-element-elements c =
     let p = element-absent _ _ _ _ _ _ c.in_ok-lent.ensures.read.answer (omega (arith, c.if-element-elements.true)) in record { is = p.0; right = p.1.0; exact = p.1.1 }
-
-pub judge_concept-requires : goal.judge_concept-requires
-judge_concept-requires c =
-    let n = ap (λ (s : Shape). s.elements) c.in_ok-lent.ensures.read.shape_same in
-    record { concept_bound = omega (arith, c.concept_count.ensures.is, c.if-concept-concept_count.false); e_lt_elements = omega (arith, n, c.if-element-elements.false) }
 
 pub returns : goal.returns
 returns c =

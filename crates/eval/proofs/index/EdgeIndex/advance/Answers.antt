@@ -1,11 +1,8 @@
 use native.Mathlib.Omega.{arith}
 use mathlib.Core.Path.{sym, ◌∙◌}
 use borrow.Author.Tests.{eqb-true}
-use Rattle.eval.proofs.IndexLaws.{gap-none, gap-join}
+use Rattle.eval.proofs.IndexLaws.{gap-join}
 use Rattle.eval.proofs.index.EdgeIndex.advance.Goals as goal
-
-pub loop-w-init : goal.loop-w-init
-loop-w-init c = (omega arith, c.requires.at_in_bounds, gap-none _ _ _, c.requires.ahead)
 
 pub returns-then-eq : goal.returns-then-eq
 returns-then-eq c =
@@ -16,8 +13,3 @@ pub loop-w-preserved : goal.loop-w-preserved
 loop-w-preserved c =
     let J = c.jump-w.ensures in
     (omega (arith, J.on), J.within, gap-join _ _ c.loop-w.invariant.2 J.gap, J.ahead)
-
-pub returns : goal.returns
-returns c =
-    let w = c.loop-w.invariant in
-    record { on = w.0; within = w.1; gap = w.2; ahead = w.3; here = λ h. absurd (omega (arith, h)) }

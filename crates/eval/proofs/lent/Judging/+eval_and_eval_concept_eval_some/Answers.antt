@@ -20,25 +20,15 @@ use Rattle.eval.proofs.LeavingLaws.{leaves-in}
 use Rattle.eval.proofs.LentLaws.{edge-fits}
 use Rattle.eval.proofs.lent.Judging.+eval_and_eval_concept_eval_some.Goals as goal
 
-pub eval_and-recall-requires : goal.eval_and-recall-requires
-eval_and-recall-requires t c = c.requires.remembered.room
-
 pub eval_and-returns-in-Some : goal.eval_and-returns-in-Some
 eval_and-returns-in-Some t c =
     record { is = recalled-right _ _ c.requires.remembered c.args.owner.0 c.args.e.0 c.requires.e_lt_elements c.recall.result c.recall.ensures _ c.in-Some.is; kept = c.requires.remembered }
-
-pub eval_and-loop-i-init : goal.eval_and-loop-i-init
-eval_and-loop-i-init t c =
-    (c.requires.remembered, rw c.new-standing.ensures)
 
 pub eval_and-eval_concept-requires : goal.eval_and-eval_concept-requires
 eval_and-eval_concept-requires t c =
     let l = c.args.list in
     let o = c.requires.and_at.fits.below c.loop-i.i (omega (arith, list_length c.args.self.now.lent.deck.bytes.now l.start l.count)) in
     (omega (arith, o, c.item.ensures), (c.loop-i.invariant.0, (omega (arith, o, c.requires.owner_bound, c.item.ensures), c.requires.e_lt_elements)))
-
-pub eval_and-remember-requires : goal.eval_and-remember-requires
-eval_and-remember-requires t c = c.eval_concept.ensures.kept.room
 
 pub eval_and-returns-then-standing : goal.eval_and-returns-then-standing
 eval_and-returns-then-standing t c =
@@ -57,9 +47,6 @@ eval_and-loop-i-preserved t c =
     let h = list_length s l.start l.count in
     (c.eval_concept.ensures.kept, w.invariant.1 ∙ and_step _ w.standing (list_of s l) w.i (omega (arith, h)) (rw c.item.ensures at c.eval_concept.ensures.is) c.and-standing.ensures)
 
-pub eval_and-remember-requires-2 : goal.eval_and-remember-requires-2
-eval_and-remember-requires-2 t c = c.loop-i.invariant.0.room
-
 pub eval_and-returns : goal.eval_and-returns
 eval_and-returns t c =
     let l = c.args.list in
@@ -68,43 +55,9 @@ eval_and-returns t c =
     let v = c.close_and.ensures ∙ and-end _ w.standing (list_of s l) w.i (omega (arith, c.loop-i.auto, list_length s l.start l.count)) ∙ sym w.invariant.1 ∙ and_is _ _ _ _ c.args.self.now.lent.fits c.args.owner.0 c.args.e.0 c.requires.and_at in
     record { is = c.remember-2.ensures.same ∙ v; kept = remembered-with w.invariant.0 c.args.owner.0 c.args.e.0 c.requires.e_lt_elements v c.remember-2.ensures.kept }
 
-pub eval_concept-eval_and-requires : goal.eval_concept-eval_and-requires
-eval_concept-eval_and-requires t c =
-    (omega (arith), (c.requires.remembered, (c.requires.concept_bound, (c.requires.e_lt_elements, rw c.in-And.is at c.eval_leaf-leaf.ensures))))
-
-pub eval_concept-eval_some-requires : goal.eval_concept-eval_some-requires
-eval_concept-eval_some-requires t c =
-    (omega (arith), (c.requires.remembered, (c.requires.concept_bound, (c.requires.e_lt_elements, rw c.in-Some.is at c.eval_leaf-leaf.ensures))))
-
-pub eval_concept-returns-in-Judged : goal.eval_concept-returns-in-Judged
-eval_concept-returns-in-Judged t c =
-    record { is = (rw c.in-Judged.is at c.eval_leaf-leaf.ensures) c.args.self.now.lent.edges.now; kept = c.requires.remembered }
-
-pub eval_concept-returns-in-And : goal.eval_concept-returns-in-And
-eval_concept-returns-in-And t c =
-    c.eval_and.ensures
-
-pub eval_concept-returns-in-Some : goal.eval_concept-returns-in-Some
-eval_concept-returns-in-Some t c =
-    c.eval_some.ensures
-
-pub eval_some-recall-requires : goal.eval_some-recall-requires
-eval_some-recall-requires t c = c.requires.remembered.room
-
 pub eval_some-returns-in-Some : goal.eval_some-returns-in-Some
 eval_some-returns-in-Some t c =
     record { is = recalled-right _ _ c.requires.remembered c.args.owner.0 c.args.e.0 c.requires.e_lt_elements c.recall.result c.recall.ensures _ c.in-Some.is; kept = c.requires.remembered }
-
-pub eval_some-loop-edge-init : goal.eval_some-loop-edge-init
-eval_some-loop-edge-init t c =
-    (c.requires.remembered, rw c.new-standing.ensures)
-
-pub eval_some-is_sub_role-requires : goal.eval_some-is_sub_role-requires
-eval_some-is_sub_role-requires t c =
-    record { r_bound = omega (arith, c.requires.some_at.role, c.role_id-r.ensures) }
-
-pub eval_some-remember-requires : goal.eval_some-remember-requires
-eval_some-remember-requires t c = c.eval_concept.ensures.kept.room
 
 pub eval_some-returns-then-standing : goal.eval_some-returns-then-standing
 eval_some-returns-then-standing t c =
@@ -152,9 +105,6 @@ eval_some-loop-edge-preserved t c =
     let f = judge (deck_in L) (structure L) a.body.0 in
     let y = YieldsList-turn (YieldsList-from_first (λ (e : Edge). e) left (leaving a.e.0 es) (cc)) w.yielded _ w.yielded_by _ c.next.new.self e c.in-Some-edge.is c.next.ensures.steps in
     rw (length_push w.yielded e) (w.invariant.0, w.invariant.1 ∙ some-skip (deck_in L) q a.e.0 es f w.standing (length w.yielded) e y.0 (sym y.1) c.is_sub_role.ensures c.if-is_sub_role.false)
-
-pub eval_some-remember-requires-2 : goal.eval_some-remember-requires-2
-eval_some-remember-requires-2 t c = c.loop-edge.invariant.0.room
 
 pub eval_some-returns : goal.eval_some-returns
 eval_some-returns t c =

@@ -1,4 +1,4 @@
-use mathlib.Core.Path.{refl, sym, ap, ◌∙◌}
+use mathlib.Core.Path.{sym, ap, ◌∙◌}
 use mathlib.Core.List.{map}
 use native.Mathlib.Omega.{arith}
 use lib.ListN.{length-map}
@@ -10,10 +10,6 @@ use Rattle.eval.specs.InLent.{deck_in, structure}
 use Rattle.eval.proofs.Walks.{turn_end, turn_step, turn-stop}
 use Rattle.eval.proofs.RoleLaws.{word_at, holds-is, not-holds}
 use Rattle.eval.proofs.lent.Judging.check_against.Goals as goal
-
-pub loop-i-init : goal.loop-i-init
-loop-i-init c =
-    (refl, c.requires.remembered)
 
 pub returns-then-not-holds : goal.returns-then-not-holds
 returns-then-not-holds c =

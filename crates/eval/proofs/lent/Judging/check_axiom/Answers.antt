@@ -24,7 +24,3 @@ pub returns-in-23-to-25 : goal.returns-in-23-to-25
 returns-in-23-to-25 c =
     let r = c.axiom_at-record.result in
     let a = answer _ _ _ _ c.args.self.now.lent.fits c.args.axiom c.axiom_at-record.ensures (declaration _ _ c.args.self.now.lent.deck.bytes.now r.first r.second r.third r.tag (omega arith) (omega arith)) in record { is = a.0; justified = a.1; kept = c.requires.remembered }
-
-pub returns-in_default : goal.returns-in_default
-returns-in_default c =
-    absurd (omega (arith, c.axiom_at-record.ensures.known))

@@ -1,12 +1,8 @@
 use mathlib.Core.Path.{◌∙◌}
 use native.Mathlib.Omega.{arith}
 use Rattle.eval.proofs.RelationLaws.{classes-verdict}
-use Rattle.eval.proofs.ElementLoops.{passed_none, passed-all, passed-stop, passed-more}
+use Rattle.eval.proofs.ElementLoops.{passed-all, passed-stop, passed-more}
 use Rattle.eval.proofs.lent.Judging.check_classes.Goals as goal
-
-pub loop-e-init : goal.loop-e-init
-loop-e-init c =
-    (passed_none _ _ c.new-standing.ensures, c.requires.remembered)
 
 pub returns-then-standing : goal.returns-then-standing
 returns-then-standing c =

@@ -1,11 +1,7 @@
 use native.Mathlib.Omega.{arith}
 use Rattle.eval.specs.Verdict.{verdict}
-use Rattle.eval.proofs.ElementLoops.{passed_none, passed-all, passed-stop, passed-more}
+use Rattle.eval.proofs.ElementLoops.{passed-all, passed-stop, passed-more}
 use Rattle.eval.proofs.lent.Judging.check_sub_class_of.Goals as goal
-
-pub loop-e-init : goal.loop-e-init
-loop-e-init c =
-    (passed_none _ _ c.new-standing.ensures, c.requires.remembered)
 
 pub returns-then-standing : goal.returns-then-standing
 unfolding verdict

@@ -7,13 +7,9 @@ use Rattle.eval.specs.Judge.{truth}
 use Rattle.eval.specs.Verdict.{is_holds}
 use Rattle.eval.specs.InLent.{edges_in}
 use Rattle.eval.proofs.EdgeWalks.{no_edge, edges-length, edges_at}
-use Rattle.eval.proofs.SeenLaws.{seen_start, seen_skip, seen_next, seen_end}
+use Rattle.eval.proofs.SeenLaws.{seen_skip, seen_next, seen_end}
 use Rattle.eval.proofs.lent.Judging.lowest_composed.Goals as goal
 use Rattle.eval.proofs.lent.Judging.lowest_composed.Goals.{then-is_sub_role, else-is_sub_role}
-
-pub loop-i-init : goal.loop-i-init
-loop-i-init c =
-    rw c.new-lowest.ensures (seen_start _ _ (edges_in c.args.self.now.lent))
 
 pub loop-i-preserved : goal.loop-i-preserved
 loop-i-preserved c =

@@ -1,4 +1,4 @@
-use Rattle.eval.proofs.LeafLaws.{leaf-is, leaf-and, leaf-some, leaf-inverse}
+use Rattle.eval.proofs.LeafLaws.{leaf-is, leaf-some, leaf-inverse}
 use Rattle.eval.specs.Judge.{judge_of, truth}
 use mathlib.Core.Path.{sym, ap, ◌∙◌}
 use Rattle.eval.proofs.lent.Lent.eval_leaf.Goals as goal
@@ -36,10 +36,6 @@ pub returns-in-Not : goal.returns-in-Not
 unfolding judge_of
 returns-in-Not c =
     leaf-is _ c.args.self.now.fits.accepted c.args.concept.0 c.concept_at-expr.ensures c.args.self.now.labels.now c.args.self.now.shape c.args.e.0 _ c.in-Not.is
-
-pub returns-in-And : goal.returns-in-And
-returns-in-And c =
-    leaf-and _ c.args.self.now.fits.accepted c.args.concept.0 c.concept_at-expr.ensures _ c.in-And.is
 
 pub returns-in-Or : goal.returns-in-Or
 unfolding judge_of
