@@ -10,7 +10,7 @@ use crate::marks::{mark_operands, next_leaf};
 use deck::concepts::{ConceptExpr, concept_at};
 use deck::numbers::{ClassId, ConceptId, Element};
 use deck::rows::{Span, item};
-use eval::labels::has_class;
+use eval::bytes::has_class;
 
 // Is it Top? Is it no atom? Is it no atom that the element lacks?
 #[derive(Clone, Copy)]

@@ -1,9 +1,9 @@
 -- What the entry points answer, by what they have tested: `lent_fits`, and an answer for each way out.
 -- Assumes nothing.
-use Rattle.std.specs.Prelude.{Ok, Err}
+use Rattle.std.specs.Prelude.{Result, Ok, Err}
 use Prim.Native.Nat.{ℕ, ◌<◌, ◌≤◌}
 use mathlib.Core.Bool.{Bool, true, false, ◌&&◌}
-use mathlib.Core.Path.{◌≡◌, refl, ap}
+use mathlib.Core.Path.{◌≡◌, refl, ap, ◌∙◌}
 use mathlib.Core.List.{List}
 use borrow.Author.Tests.{lt-ltb, le-ltb}
 use lib.Dec.{ltb}
@@ -13,7 +13,7 @@ use Rattle.deck.specs.Refusal.{DeckAnswer}
 use Rattle.deck.specs.Answer.{unless, or_else}
 use Rattle.deck.specs.Records.{deck_answer}
 use Rattle.deck.specs.Deck.{Deck, concept_count, axiom_count, axiom_at}
-use Rattle.deck.specs.Content.{deck_of}
+use Rattle.deck.specs.Content.{IsAccepted, deck_of}
 use Rattle.deck.proofs.SoundLaws.{sound}
 use Rattle.eval.specs.declared.shape.Shape.{Shape}
 use Rattle.eval.specs.declared.judgement.Judgement.{Judgement}
@@ -48,6 +48,9 @@ and-absent : (a b : Bool) → b ≡ false → a && b ≡ false
 and-absent true b h = h
 and-absent false b h = refl
 
+pub same-refusal : {A : Type 0} {a : Result A Refusal} {x r : Refusal} → a ≡ Err x → a ≡ Err r → {d : DeckAnswer} → d ≡ Err x → d ≡ Err r
+same-refusal {A} {a} {x} {r} p q h = let e : x ≡ r = cc in h ∙ ap Err e
+
 module _ (s labels : List ℕ) (rows : List (List ℕ)) (shape : Shape) where
   abbrev D : Deck
   D = deck_of s
@@ -61,6 +64,18 @@ module _ (s labels : List ℕ) (rows : List (List ℕ)) (shape : Shape) where
   lent_fits h =
       fits s labels rows shape (first-accepted (deck_answer s) _ h)
       (passed (structure_fits D labels rows shape) ForeignStructure (then-accepted (deck_answer s) _ h))
+
+  pub deck-refused : {r : Refusal} → deck_answer s ≡ Err r → lent_answer s labels rows shape ≡ Err r
+  unfolding lent_answer
+  deck-refused h = simp h
+
+  pub lent-foreign : IsAccepted s → structure_fits D labels rows shape ≡ false → lent_answer s labels rows shape ≡ Err ForeignStructure
+  unfolding lent_answer
+  lent-foreign A h = simp (A, h)
+
+  pub lent-read : IsAccepted s → structure_fits D labels rows shape ≡ true → lent_answer s labels rows shape ≡ Ok tt
+  unfolding lent_answer
+  lent-read A h = simp (A, h)
 
   module _ (c e : ℕ) where
     -- what is due of an answer

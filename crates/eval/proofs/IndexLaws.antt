@@ -8,14 +8,15 @@ use Prim.Native.Nat.{ℕ, zero, suc, ◌+◌, ◌-◌, ◌*◌, ◌<◌, ◌≤�
 use mathlib.Core.Bool.{Bool, true, false}
 use mathlib.Core.Path.{◌≡◌, refl, sym, ap, subst, ◌∙◌}
 use mathlib.Core.Logic.{⊎_elim}
+use Rattle.std.specs.Prelude.{Some, None}
 use mathlib.Core.List.{List, [], map}
 use native.Mathlib.Nat.{eq-or-lt_of_le}
 use native.Mathlib.Omega.{arith}
 use native.Mathlib.Numerals.{add-one}
 use lib.ListN.{length, get_or, set, drop, length-set, get_or-eq_default}
 use lib.Seq.{get_or-set_same, get_or-set_other}
-use lib.Dec.{eqb}
-use borrow.Author.Tests.{eq-eqb, ne_eqb, eqb-true, eqb-false}
+use lib.Dec.{eqb, ltb}
+use borrow.Author.Tests.{eq-eqb, ne_eqb, eqb-true, eqb-false, ltb-true, ltb-false}
 use Rattle.deck.specs.Deck.{Deck}
 use Rattle.deck.proofs.CaseLaws.{lt-or-le}
 use Rattle.eval.specs.declared.edges.Edge.{Edge}
@@ -25,6 +26,7 @@ use Rattle.eval.specs.declared.standing.Standing.{Standing}
 use Rattle.eval.specs.Lists.{any}
 use Rattle.eval.specs.Edges.{edge_of, edges_of, goes, leaves}
 use Rattle.eval.specs.Judge.{some_from}
+use Rattle.eval.proofs.Clash.{clash}
 use Rattle.eval.proofs.EdgeWalks.{no_edge, edges_at, edges-length, any_step}
 use Rattle.eval.proofs.Hits.{hits, hits-skip}
 use Rattle.eval.proofs.SeenLaws.{SeenTo, seen_skip}
@@ -50,6 +52,13 @@ module _ (rows : List (List ℕ)) (x : ℕ) where
 
   pub gap-one : {i : ℕ} → (from_at rows i ≡ x → ⊥) → Gap rows x i (i + 1)
   gap-one {i} n = gap_back n (gap-none (i + 1))
+
+  pub gap-join : {i m s : ℕ} → Gap rows x i m → Gap rows x m s → Gap rows x i s
+  gap-join {i} {m} {s} g h j p q = go (ltb j m) refl
+    where
+      go : (b : Bool) → ltb j m ≡ b → from_at rows j ≡ x → ⊥
+      go true t = g j p (ltb-true j m t)
+      go false t = h j (ltb-false j m t) q
 
   pub once-less : {i s s' : ℕ} → s' ≤ s → Once rows x i s → Once rows x i s'
   once-less a o = λ j p q n. gap-less (omega arith) a (o j p (omega (arith, a, q)) n)
@@ -207,7 +216,7 @@ module _ (rows : List (List ℕ)) (n count : ℕ) (index : List ℕ) where
 
 -- ---- loops that skip
 -- what each step keeps holds at the end
-climb : (P : ℕ → Type 0) (i j : ℕ) → i ≤ j → ((k : ℕ) → i ≤ k → k < j → P k → P (k + 1)) → P i → P j
+pub climb : (P : ℕ → Type 0) (i j : ℕ) → i ≤ j → ((k : ℕ) → i ≤ k → k < j → P k → P (k + 1)) → P i → P j
 climb P i zero h s p = subst P (omega (arith, h)) p
 climb P i (suc j) h s p =
     ⊎_elim (λ (e : i ≡ suc j). subst P e p)
@@ -269,23 +278,27 @@ module _ (rows : List (List ℕ)) (n count : ℕ) (index : List ℕ) where
     inside : i < count
     inside = omega (arith, B.few)
 
+    entered : (is : List ℕ) (runs : ℕ) → length is ≡ length index → Built rows n count i runs is → Entered rows n count i index is (Some runs)
+    entered is runs size B = record {
+      size = size;
+      full = λ z. clash (cc);
+      built = λ r p. let same : runs ≡ r = cc in subst (λ (m : ℕ). Built rows n count i m is) same B;
+    }
+
     -- edge i comes to the front of the run after it
-    pub entered-front : (h : ℕ) → h ≡ head index (from_at rows i) → Follows rows n index h i → Entered rows n count i index (set index (1 + n + 2 * h) i) most
+    pub entered-front : (h : ℕ) → h ≡ head index (from_at rows i) → Follows rows n index h i → Entered rows n count i index (set index (1 + n + 2 * h) i) (Some most)
     entered-front h e F =
         let fits : h ≤ most = omega (arith, e, B.runs.head-fits (from_at rows i) known) in
-        record {
-          size = length-set index (1 + n + 2 * h) i;
-          full = λ z. absurd (omega (arith, z, fits, F.some));
-          built = λ p. record {
-            room = omega (arith, length-set index (1 + n + 2 * h) i, B.room);
-            few = omega (arith, B.few);
-            runs = runs-front rows n i count most (head index) (start n index) (next n index) _ _ _ B.runs inside h F.some (sym e) F.after F.same fits
-                (λ x l. get_or-set_other index (1 + n + 2 * h) (3 + x) i 0 (λ q. omega (arith, q, l, F.some)))
-                (λ m p. get_or-set_other index (1 + n + 2 * h) (2 + n + 2 * m) i 0 (λ q. omega (arith, q)))
-                (get_or-set_same index (1 + n + 2 * h) i 0 (omega (arith, B.room, fits)))
-                (λ m d. get_or-set_other index (1 + n + 2 * h) (1 + n + 2 * m) i 0 (λ q. d (omega (arith, q))));
-          };
-        }
+        entered _ most (length-set index (1 + n + 2 * h) i)
+        (record {
+          room = omega (arith, length-set index (1 + n + 2 * h) i, B.room);
+          few = omega (arith, B.few);
+          runs = runs-front rows n i count most (head index) (start n index) (next n index) _ _ _ B.runs inside h F.some (sym e) F.after F.same fits
+              (λ x l. get_or-set_other index (1 + n + 2 * h) (3 + x) i 0 (λ q. omega (arith, q, l, F.some)))
+              (λ m p. get_or-set_other index (1 + n + 2 * h) (2 + n + 2 * m) i 0 (λ q. omega (arith, q)))
+              (get_or-set_same index (1 + n + 2 * h) i 0 (omega (arith, B.room, fits)))
+              (λ m d. get_or-set_other index (1 + n + 2 * h) (1 + n + 2 * m) i 0 (λ q. d (omega (arith, q))));
+        })
 
     -- edge i is a run of its own
     module _ (more : 5 + n + 2 * most ≤ length index) where
@@ -305,27 +318,24 @@ module _ (rows : List (List ℕ)) (n count : ℕ) (index : List ℕ) where
       size_of : (h : ℕ) → length (set (second h) (3 + from_at rows i) (most + 1)) ≡ length index
       size_of h = length-set (second h) (3 + from_at rows i) (most + 1) ∙ length-set first (2 + n + 2 * (most + 1)) h ∙ length-set index at i
 
-      pub entered-new : (h : ℕ) → h ≡ head index (from_at rows i) → Entered rows n count i index (set (second h) (3 + from_at rows i) (most + 1)) (most + 1)
-      entered-new h e = record {
-        size = size_of h;
-        full = λ z. absurd (omega (arith, z));
-        built = λ p. record {
-          room = omega (arith, size_of h, more);
-          few = omega (arith, B.few);
-          runs = runs-new rows n i count most (head index) (start n index) (next n index) _ _ _ B.runs inside
-              (get_or-set_same (second h) (3 + from_at rows i) (most + 1) 0 (omega (arith, known, more, length-set first (2 + n + 2 * (most + 1)) h, length-set index at i)))
-              (λ x l d. kept h (3 + x) (λ q. omega (arith, q, l)) (λ q. omega (arith, q, l)) (λ q. d (omega (arith, q))))
-              (get_or-set_other (second h) (3 + from_at rows i) at (most + 1) 0 (λ q. omega (arith, q, known)) ∙ get_or-set_other first (2 + n + 2 * (most + 1)) at h 0 (λ q. omega (arith, q)) ∙ get_or-set_same index at i 0 (omega (arith, more)))
-              (λ m p l. kept h (1 + n + 2 * m) (λ q. omega (arith, q, l)) (λ q. omega (arith, q)) (λ q. omega (arith, q, known, p)))
-              (get_or-set_other (second h) (3 + from_at rows i) (2 + n + 2 * (most + 1)) (most + 1) 0 (λ q. omega (arith, q, known)) ∙ get_or-set_same first (2 + n + 2 * (most + 1)) h 0 (omega (arith, more, length-set index at i)) ∙ e)
-              (λ m p l. kept h (2 + n + 2 * m) (λ q. omega (arith, q)) (λ q. omega (arith, q, l)) (λ q. omega (arith, q, known, p)))
-              known;
-        };
-      }
+      pub entered-new : (h : ℕ) → h ≡ head index (from_at rows i) → Entered rows n count i index (set (second h) (3 + from_at rows i) (most + 1)) (Some (most + 1))
+      entered-new h e =
+          entered _ (most + 1) (size_of h) (record {
+            room = omega (arith, size_of h, more);
+            few = omega (arith, B.few);
+            runs = runs-new rows n i count most (head index) (start n index) (next n index) _ _ _ B.runs inside
+                (get_or-set_same (second h) (3 + from_at rows i) (most + 1) 0 (omega (arith, known, more, length-set first (2 + n + 2 * (most + 1)) h, length-set index at i)))
+                (λ x l d. kept h (3 + x) (λ q. omega (arith, q, l)) (λ q. omega (arith, q, l)) (λ q. d (omega (arith, q))))
+                (get_or-set_other (second h) (3 + from_at rows i) at (most + 1) 0 (λ q. omega (arith, q, known)) ∙ get_or-set_other first (2 + n + 2 * (most + 1)) at h 0 (λ q. omega (arith, q)) ∙ get_or-set_same index at i 0 (omega (arith, more)))
+                (λ m p l. kept h (1 + n + 2 * m) (λ q. omega (arith, q, l)) (λ q. omega (arith, q)) (λ q. omega (arith, q, known, p)))
+                (get_or-set_other (second h) (3 + from_at rows i) (2 + n + 2 * (most + 1)) (most + 1) 0 (λ q. omega (arith, q, known)) ∙ get_or-set_same first (2 + n + 2 * (most + 1)) h 0 (omega (arith, more, length-set index at i)) ∙ e)
+                (λ m p l. kept h (2 + n + 2 * m) (λ q. omega (arith, q)) (λ q. omega (arith, q, l)) (λ q. omega (arith, q, known, p)))
+                known;
+          })
 
   -- there is no room for edge i
-  pub entered-not : (i : ℕ) → Entered rows n count i index index 0
-  entered-not i = record { size = refl; full = λ z. refl; built = λ p. absurd (omega (arith, p)) }
+  pub entered-not : (i : ℕ) → Entered rows n count i index index None
+  entered-not i = record { size = refl; full = λ z. refl; built = λ r p. clash (cc) }
 
   -- the words that say what is covered
   module _ (i most : ℕ) (B : Built rows n count i most index) where

@@ -1,10 +1,10 @@
 -- Judging a concept that was read: what a leaf is, what an And and a Some come to, and one step of a Some over the edges that leave an element.
-use Prim.Native.Nat.{ℕ, ◌+◌, ◌/◌, ◌<◌, ◌≤◌}
-use mathlib.Core.Bool.{Bool, true, false, cond}
-use mathlib.Core.Path.{◌≡◌, sym, ap, ◌∙◌}
-use mathlib.Core.List.{List, []}
-use native.Mathlib.Omega.{arith}
+use Prim.Native.Nat.{ℕ, ◌+◌, ◌/◌, ◌<◌}
+use mathlib.Core.Bool.{Bool, true, false, cond, ◌&&◌}
+use mathlib.Core.Path.{◌≡◌, refl, sym, ap, ◌∙◌}
+use mathlib.Core.List.{List, [], ◌∷◌}
 use borrow.Author.Tests.{eq-eqb}
+use lib.Dec.{eqb}
 use lib.ListN.{length, get_or, drop}
 use Rattle.deck.specs.Deck.{Deck, Role, Concept, concept_at}
 use Rattle.deck.specs.Numbers.{inverse_word}
@@ -16,25 +16,21 @@ use Rattle.deck.proofs.SoundLaws.{sound}
 use Rattle.eval.specs.declared.edges.Edge.{Edge}
 use Rattle.eval.specs.declared.judgement.Judgement.{Judgement}
 use Rattle.eval.specs.declared.judgement.Judgement.TheVariants.{True, Unresolved}
-use Rattle.eval.specs.declared.memo.Recalled.{Recalled}
-use Rattle.eval.specs.declared.memo.Recalled.TheVariants.{Known}
 use Rattle.eval.specs.declared.shape.Shape.{Shape}
 use Rattle.eval.specs.declared.standing.Standing.{Standing}
-use Rattle.eval.specs.Edges.{edge_of, edges_of, leaves, under}
-use Rattle.eval.specs.Equipped.{Equipped}
-use Rattle.eval.specs.Index.{Gap}
+use Rattle.eval.specs.Edges.{edges_of, leaves, under}
+use Rattle.eval.specs.Leaving.{leaving}
 use Rattle.eval.specs.Judge.{judge, judge_of, and_from, some_from}
 use Rattle.eval.specs.Leaf.{AndAt, SomeAt}
-use Rattle.eval.specs.Lent.{Fits, EdgeFits, structure_of}
-use Rattle.eval.specs.Memo.{code_of, key_of, recalled, stored}
+use Rattle.eval.specs.Lent.{Fits, structure_of}
+use Rattle.eval.specs.Memo.{Remembers, code_of, key_of, stored}
 use Rattle.eval.specs.Standing.{fresh, some_next}
 use Rattle.eval.specs.Structure.{Structure}
 use Rattle.eval.proofs.Clash.{clash}
-use Rattle.eval.proofs.EdgeWalks.{no_edge, edges-length, edges_at}
 use Rattle.eval.proofs.Hits.{hits, hits-skip, hits-step, hits-stop}
-use Rattle.eval.proofs.IndexLaws.{leaves-off, hits-skip-to}
+use Rattle.eval.proofs.LeavingLaws.{leaves-from}
 use Rattle.eval.proofs.LentLaws.{some_walk}
-use Rattle.eval.proofs.MemoLaws.{recalled-right, stored-right}
+use Rattle.eval.proofs.MemoLaws.{stored-right}
 use Rattle.eval.proofs.RoleLaws.{inverse-word}
 use Rattle.eval.proofs.Steps.{judge-is}
 
@@ -67,6 +63,16 @@ module _ (s : List ℕ) (A : IsAccepted s) (c : ℕ) {expr : ConceptExpr} (R : C
 abbrev pub hits_from : Deck → ℕ → ℕ → List Edge → List ℕ
 hits_from D q x l = hits (leaves D q x) (λ e. e.to.0) l
 
+-- the edges that leave x, alone
+pub hits-leaving : (D : Deck) (q x : ℕ) (es : List Edge) → hits_from D q x (leaving x es) ≡ hits_from D q x es
+unfolding hits
+hits-leaving D q x [] = refl
+hits-leaving D q x (e ∷ es) = go (eqb e.from.0 x) refl (hits-leaving D q x es)
+  where
+    go : (b : Bool) → eqb e.from.0 x ≡ b → hits_from D q x (leaving x es) ≡ hits_from D q x es → hits_from D q x (cond b (e ∷ leaving x es) (leaving x es)) ≡ cond (b && under D q e) (e.to.0 ∷ hits_from D q x es) (hits_from D q x es)
+    go true h ih = rw (h, ih) refl
+    go false h ih = ih
+
 module _ (s labels : List ℕ) (rows : List (List ℕ)) (shape : Shape) where
   abbrev D : Deck
   D = deck_of s
@@ -90,39 +96,24 @@ module _ (s labels : List ℕ) (rows : List (List ℕ)) (shape : Shape) where
         go true n q = clash (cc)
         go false n q = some_walk s labels rows shape F (Role.Named (w / 2)) x b ∙ judge-is D (sound s F.accepted) S c x (Concept.Some (Role.Named (w / 2)) b) q
 
-    -- a stretch where no edge leaves x
-    pub some-jump : (q x i j : ℕ) → i ≤ j → j ≤ shape.edges → Gap rows x i j → (f : ℕ → Judgement) (t : Standing) → some_from f t (hits_from D q x (drop i es)) ≡ some_from f t (hits_from D q x (drop j es))
-    some-jump q x i j l w gap f t = hits-skip-to rows shape.edges F.count x i j l w gap (leaves D q x) (leaves-off D q x) (λ e. e.to.0) f t
+-- one step of a Some over the edges that leave x, at position i of them
+module _ (D : Deck) (q x : ℕ) (es : List Edge) (f : ℕ → Judgement) (s : Standing) (i : ℕ) (e : Edge) (h : i < length (leaving x es)) (is : get_or (leaving x es) i e ≡ e) {b : Bool} (of : b ≡ under D q e) where
+  test : leaves D q x (get_or (leaving x es) i e) ≡ b
+  test = rw (is, eq-eqb e.from.0 x (leaves-from x es i e h is)) (sym of)
 
-    -- edge i leaves x; b is whether it is one of role q
-    module _ (i : ℕ) (h : i < shape.edges) {edge : Edge} (is : edge ≡ edge_of (get_or rows i [])) where
-      pub edge-ends : EdgeFits D shape.elements edge
-      edge-ends = rw is (F.ends i h)
+  pub some-skip : b ≡ false → some_from f s (hits_from D q x (drop i (leaving x es))) ≡ some_from f s (hits_from D q x (drop (i + 1) (leaving x es)))
+  some-skip n = hits-skip (leaves D q x) (λ (d : Edge). d.to.0) f s e (leaving x es) i h (test ∙ n)
 
-      module _ (q x : ℕ) (from : edge.from.0 ≡ x) {b : Bool} (of : b ≡ under D q edge) (f : ℕ → Judgement) (t : Standing) where
-        test : leaves D q x (get_or es i no_edge) ≡ b
-        test = rw (edges_at rows shape.edges i h F.count ∙ sym is, eq-eqb edge.from.0 x from) (sym of)
+  module _ (y : b ≡ true) {j : Judgement} {next : Standing} (v : j ≡ f e.to.0) (u : next ≡ some_next s j) where
+    to : j ≡ f (get_or (leaving x es) i e).to.0
+    to = v ∙ ap (λ (d : Edge). f d.to.0) (sym is)
 
-        inside : i < length es
-        inside = omega (arith, h, edges-length rows shape.edges F.count)
+    pub some-step : some_from f s (hits_from D q x (drop i (leaving x es))) ≡ some_from f next (hits_from D q x (drop (i + 1) (leaving x es)))
+    some-step = hits-step (leaves D q x) (λ (d : Edge). d.to.0) f s e (leaving x es) i h (test ∙ y) to u
 
-        pub some-skip : b ≡ false → some_from f t (hits_from D q x (drop i es)) ≡ some_from f t (hits_from D q x (drop (i + 1) es))
-        some-skip n = hits-skip (leaves D q x) (λ e. e.to.0) f t no_edge es i inside (test ∙ n)
+    pub some-stop : next.ended ≡ true → True ≡ some_from f s (hits_from D q x (drop i (leaving x es)))
+    some-stop k = hits-stop (leaves D q x) (λ (d : Edge). d.to.0) f s e (leaving x es) i h (test ∙ y) to u k
 
-        module _ (y : b ≡ true) {j : Judgement} {next : Standing} (v : j ≡ f edge.to.0) (u : next ≡ some_next t j) where
-          to : j ≡ f (get_or es i no_edge).to.0
-          to = v ∙ ap (λ (a : Edge). f a.to.0) (is ∙ sym (edges_at rows shape.edges i h F.count))
-
-          pub some-step : some_from f t (hits_from D q x (drop i es)) ≡ some_from f next (hits_from D q x (drop (i + 1) es))
-          some-step = hits-step (leaves D q x) (λ e. e.to.0) f t no_edge es i inside (test ∙ y) to u
-
-          pub some-stop : next.ended ≡ true → True ≡ some_from f t (hits_from D q x (drop i es))
-          some-stop k = hits-stop (leaves D q x) (λ e. e.to.0) f t no_edge es i inside (test ∙ y) to u k
-
-  -- ---- what is remembered
-  module _ {index memo : List ℕ} (E : Equipped s labels rows shape index memo) (c e : ℕ) (h : e < shape.elements) where
-    pub recalled-is : {r : Recalled} → r ≡ recalled memo (key_of shape.elements c e) → (j : Judgement) → r ≡ Known j → j ≡ judge D S c e
-    recalled-is {r} p j q = recalled-right D S E.remembers c e h r p j q
-
-    pub equipped-with : {j : Judgement} → j ≡ judge D S c e → {is : List ℕ} → is ≡ stored memo (key_of shape.elements c e) (code_of j) → Equipped s labels rows shape index is
-    equipped-with {j} p q = record { fits = E.fits; indexed = E.indexed; remembers = rw q (stored-right D S E.remembers c e h j p) }
+-- ---- what is remembered
+pub remembered-with : {D : Deck} {S : Structure} {memo : List ℕ} → Remembers D S memo → (c e : ℕ) → e < S.size → {j : Judgement} → j ≡ judge D S c e → {is : List ℕ} → is ≡ stored memo (key_of S.size c e) (code_of j) → Remembers D S is
+remembered-with {D} {S} R c e h {j} p q = rw q (stored-right D S R c e h j p)

@@ -32,5 +32,8 @@ pub mod EquivalentLaws
 pub mod LeafLaws
 pub mod JustifiedLaws
 pub mod AxiomLaws
+pub mod ChainLaws
 pub mod ForeignLaws
 pub mod EntryLaws
+pub mod LeavingLaws
+mod RelationLaws

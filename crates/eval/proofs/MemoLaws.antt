@@ -19,8 +19,7 @@ use Rattle.deck.specs.Deck.{Deck}
 use Rattle.deck.proofs.CaseLaws.{lt-or-le}
 use Rattle.eval.specs.declared.judgement.Judgement.{Judgement}
 use Rattle.eval.specs.declared.judgement.Judgement.TheVariants.{False, True, Unresolved}
-use Rattle.eval.specs.declared.memo.Recalled.{Recalled}
-use Rattle.eval.specs.declared.memo.Recalled.TheVariants.{Known, Unknown}
+use Rattle.std.proofs.Common.{Option, Some, None}
 use Rattle.eval.specs.Equipped.{Blank}
 use Rattle.eval.specs.Judge.{judge}
 use Rattle.eval.specs.Memo.{judgement_of, code_of, key_of, word_for, recalled_as, recalled, stored, Remembers}
@@ -81,15 +80,15 @@ code-high t q l h = rw (q, le-ltb t 2 l, lt-ltb 14 t h)
 pub code-tag : {j : Judgement} (t : ℕ) → j ≡ Unresolved t → 2 ≤ t → t ≤ 14 → t + 1 ≡ code_of j
 code-tag t q l h = rw (q, le-ltb t 2 l, le-ltb 14 t h)
 
-pub as-tag : (d : ℕ) → (d ≡ 0 → ⊥) → (d ≡ 1 → ⊥) → (d ≡ 2 → ⊥) → Known (Unresolved (d - 1)) ≡ recalled_as d
+pub as-tag : (d : ℕ) → (d ≡ 0 → ⊥) → (d ≡ 1 → ⊥) → (d ≡ 2 → ⊥) → Some (Unresolved (d - 1)) ≡ recalled_as d
 as-tag d a b c = rw (ne_eqb d 0 a, ne_eqb d 1 b, ne_eqb d 2 c)
 
 module _ (memo : List ℕ) {k n : ℕ} (is : k ≡ n) where
-  pub recalled-miss : (get_or memo (k % length memo) 0 / 16 ≡ k / length memo → ⊥) → Unknown ≡ recalled memo n
+  pub recalled-miss : (get_or memo (k % length memo) 0 / 16 ≡ k / length memo → ⊥) → None ≡ recalled memo n
   unfolding recalled word_for
   recalled-miss h = rw (← is, ne_eqb (get_or memo (k % length memo) 0 / 16) (k / length memo) h)
 
-  pub recalled-hit : {r : Recalled} → get_or memo (k % length memo) 0 / 16 ≡ k / length memo → r ≡ recalled_as (get_or memo (k % length memo) 0 % 16) → r ≡ recalled memo n
+  pub recalled-hit : {r : Option Judgement} → get_or memo (k % length memo) 0 / 16 ≡ k / length memo → r ≡ recalled_as (get_or memo (k % length memo) 0 % 16) → r ≡ recalled memo n
   unfolding recalled word_for
   recalled-hit h q = q ∙ rw (← is, eq-eqb (get_or memo (k % length memo) 0 / 16) (k / length memo) h)
 
@@ -123,19 +122,19 @@ module _ (D : Deck) (S : Structure) {memo : List ℕ} (R : Remembers D S memo) (
   abbrev k : ℕ
   k = key_of S.size c e
 
-  pub recalled-right : (r : Recalled) → r ≡ recalled memo k → (j : Judgement) → r ≡ Known j → j ≡ judge D S c e
+  pub recalled-right : (r : Option Judgement) → r ≡ recalled memo k → (j : Judgement) → r ≡ Some j → j ≡ judge D S c e
   unfolding recalled
   recalled-right r p j q = go (eqb (word_for memo k / 16) (k / length memo)) (eqb (word_for memo k % 16) 0) refl refl (sym q ∙ p)
     where
       go : (a b : Bool) → eqb (word_for memo k / 16) (k / length memo) ≡ a → eqb (word_for memo k % 16) 0 ≡ b
-          → Known j ≡ cond a (cond b Unknown (Known (judgement_of (word_for memo k % 16)))) Unknown → j ≡ judge D S c e
+          → Some j ≡ cond a (cond b None (Some (judgement_of (word_for memo k % 16)))) None → j ≡ judge D S c e
       go true true x y z = clash (cc)
       go true false x y z =
           let u = eqb-true (word_for memo k / 16) (k / length memo) x in
           let v = eqb-false (word_for memo k % 16) 0 y in
           known z ∙ R.right c e h u (⊎_elim (λ l. l) (λ l. absurd (v (omega (arith, l)))) (lt-or-le 0 (word_for memo k % 16)))
         where
-          known : {i : Judgement} → Known j ≡ Known i → j ≡ i
+          known : {i : Judgement} → Some j ≡ Some i → j ≡ i
           known e = cc
       go false b x y z = clash (cc)
 

@@ -1,11 +1,12 @@
 -- A walk over the list of edges, in its own order, decides a check over the pairs of a role word, or over the edges of a role, "by from then to".
---     pairs-fail, pairs-open, pairs-hold      the three ways it ends
+--     pairs-fail, pairs-pass                  how it ends
 --     steady                                  a demand is left open with one tag only
 use Prim.Native.Nat.{ℕ, ◌<◌}
 use mathlib.Core.Bool.{Bool, true, false, ◌&&◌, ◌||◌}
 use mathlib.Core.Path.{◌≡◌, refl, sym, ap, ◌∙◌}
 use mathlib.Core.Logic.{◌⊎◌, ⊎_elim}
 use mathlib.Core.List.{List, map}
+use Rattle.std.specs.Prelude.{Option, Some, None}
 use Rattle.eval.specs.Lists.{any}
 use Rattle.eval.proofs.ListLaws.{any_of, none-at, map-in, in_map}
 use borrow.Author.Tests.{lt-ltb, eq-eqb, eqb-true}
@@ -31,7 +32,7 @@ use Rattle.eval.specs.Edges.{edges_of, edges_by, turned, under, leaves, linked_b
 use Rattle.eval.specs.Lent.{Fits, structure_of}
 use Rattle.eval.specs.Lowest.{before, Among, Seen}
 use Rattle.eval.specs.Demand.{demand_at}
-use Rattle.eval.specs.Verdict.{at_pairs, three, onward, composed, guarded, is_holds}
+use Rattle.eval.specs.Verdict.{open_or_holds, at_pairs, three, onward, composed, guarded, is_holds}
 use Rattle.eval.proofs.Clash.{clash, both_ways}
 use Rattle.eval.proofs.EdgeLaws as edge-laws
 use Rattle.eval.proofs.LinkLaws.{both, has-pair-is}
@@ -80,30 +81,37 @@ module _ (s labels : List ℕ) (rows : List (List ℕ)) (shape : Shape) (F : Fit
         let k = listed_by r x y e.has in
         h k.0 k.1 (rw (k.2, k.3) p)
 
-    pub pairs-fail : l.found ≡ true → Fails (w (pair l.from.0 l.to.0)) ≡ at_pairs D S r g w
-    pairs-fail h =
-        let m = Z.fails h in
+    pub pairs-fail : (d : Edge) → l.failing ≡ Some d → Fails (w (pair d.from.0 d.to.0)) ≡ at_pairs D S r g w
+    pairs-fail d h =
+        let m = Z.fails d h in
         sym
-        (pairs-least D S r g w l.from.0 l.to.0 (rw (m.from_is, m.to_is) at (word-edge-from r m.edge m.met)) (rw (m.from_is, m.to_is) at m.fails)
+        (pairs-least D S r g w d.from.0 d.to.0 (word-edge-from r d m.met) m.fails
         (λ p q e b n.
         let k = listed_by r p q e.has in
         let t = m.least k.0 k.1 (rw (k.2, k.3) n) in
-        both_ways (before-below p q l.from.0 l.to.0 b) (rw (k.2, k.3) at t)))
+        both_ways (before-below p q d.from.0 d.to.0 b) (rw (k.2, k.3) at t)))
 
-    pub pairs-open : (tag : ℕ) → ((x y t : ℕ) → g (pair x y) ≡ Unresolved t → t ≡ tag) → l.found ≡ false → l.noted ≡ true → UnhandledConcept l.tag ≡ at_pairs D S r g w
-    pairs-open tag steady h k =
-        let o = Z.opens k in
+    pairs-open : (tag : ℕ) → ((x y t : ℕ) → g (pair x y) ≡ Unresolved t → t ≡ tag) → l.failing ≡ None → (t : ℕ) → l.noted ≡ Some t → UnhandledConcept t ≡ at_pairs D S r g w
+    pairs-open tag steady h t k =
+        let o = Z.opens t k in
         sym
-        (pairs-opens D S r g w tag (λ x y t e. steady x y t) (λ x y e. never False (Z.sound h) x y e) o.edge.from.0 o.edge.to.0 l.tag
+        (pairs-opens D S r g w tag (λ x y t e. steady x y t) (λ x y e. never False (Z.sound h) x y e) o.edge.from.0 o.edge.to.0 t
         (word-edge-from r o.edge o.met) o.unresolved)
 
-    pub pairs-hold : l.found ≡ false → l.noted ≡ false → Holds ≡ at_pairs D S r g w
+    pairs-hold : l.failing ≡ None → l.noted ≡ None → Holds ≡ at_pairs D S r g w
     pairs-hold h k = sym (pairs-holds D S r g w (λ x y e. by x y e (g (pair x y)) refl))
       where
         by : (x y : ℕ) → edge-laws.PairAt D S r x y → (i : Judgement) → g (pair x y) ≡ i → g (pair x y) ≡ True
         by x y e False q = absurd (never False (Z.sound h) x y e q)
         by x y e True q = q
         by x y e (Unresolved t) q = absurd (never (Unresolved t) (λ d m u. Z.closed k d t m u) x y e q)
+
+    pub pairs-pass : (tag : ℕ) → ((x y t : ℕ) → g (pair x y) ≡ Unresolved t → t ≡ tag) → l.failing ≡ None → open_or_holds l.noted ≡ at_pairs D S r g w
+    pairs-pass tag steady h = go l.noted refl
+      where
+        go : (n : Option ℕ) → l.noted ≡ n → open_or_holds n ≡ at_pairs D S r g w
+        go (Some t) k = pairs-open tag steady h t k
+        go None k = pairs-hold h k
 
   -- ---- two edges, one after the other
   truth-not-false : {b : Bool} → (truth b ≡ False → ⊥) → b ≡ true
@@ -120,20 +128,19 @@ module _ (s labels : List ℕ) (rows : List (List ℕ)) (shape : Shape) (F : Fit
         let k = has_listed s labels rows shape F b y z h in
         (k.edge, record { member = k.«in»; passes = both (eq-eqb k.edge.from.0 y k.from_is) k.by }, k.from_is, k.to_is)
 
-    pub onward-fail : l.found ≡ true → Fails (three x y l.to.0) ≡ onward D S b sup x y
-    onward-fail h =
-        let m = Z.fails h in
-        let from = eqb m.edge.from.0 y in
-        let is_y = eqb-true m.edge.from.0 y (and_left from _ m.met.passes) in
-        let has = edge-has s labels rows shape F b m.edge m.met.member (and_right from _ m.met.passes) in
+    pub onward-fail : (d : Edge) → l.failing ≡ Some d → Fails (three x y d.to.0) ≡ onward D S b sup x y
+    onward-fail d h =
+        let m = Z.fails d h in
+        let from = eqb d.from.0 y in
+        let is_y = eqb-true d.from.0 y (and_left from _ m.met.passes) in
+        let has = edge-has s labels rows shape F b d m.met.member (and_right from _ m.met.passes) in
         sym
-        (onward-least D S b sup x y l.to.0 (rw m.to_is at (edge-fits s labels rows shape F m.edge m.met.member).to) (rw (is_y, m.to_is) at has)
-        (rw m.to_is at (edge-laws.truth-false (has_edge D S sup x m.edge.to.0) m.fails))
+        (onward-least D S b sup x y d.to.0 (edge-fits s labels rows shape F d m.met.member).to (rw is_y at has) (edge-laws.truth-false (has_edge D S sup x d.to.0) m.fails)
         (λ u k e. truth-not-false (λ n.
         let t = met u e in
-        both_ways (before-below y u l.from.0 l.to.0 (◌⊎◌.inr (sym is_y ∙ m.from_is, k))) (rw (t.2, t.3) at (m.least t.0 t.1 (rw t.3 n))))))
+        both_ways (before-below y u d.from.0 d.to.0 (◌⊎◌.inr (sym is_y, k))) (rw (t.2, t.3) at (m.least t.0 t.1 (rw t.3 n))))))
 
-    pub onward-hold : l.found ≡ false → Holds ≡ onward D S b sup x y
+    pub onward-hold : l.failing ≡ None → Holds ≡ onward D S b sup x y
     onward-hold h =
         sym
         (onward-holds D S b sup x y
@@ -147,17 +154,16 @@ module _ (s labels : List ℕ) (rows : List (List ℕ)) (shape : Shape) (F : Fit
     holds_of (UnhandledConcept tag) h = absurd (h refl)
     holds_of (GuardedRoleHasEdges r) h = absurd (h refl)
 
-    pub composed-fail : l.found ≡ true → onward D S b sup l.from.0 l.to.0 ≡ composed D S a b sup
-    composed-fail h =
-        let m = Z.fails h in
+    pub composed-fail : (d : Edge) → l.failing ≡ Some d → onward D S b sup d.from.0 d.to.0 ≡ composed D S a b sup
+    composed-fail d h =
+        let m = Z.fails d h in
         sym
-        (composed-first D S a b sup l.from.0 l.to.0 (rw (m.from_is, m.to_is) at (edge-from a m.edge m.met))
-        (λ n. let f : truth (is_holds (onward D S b sup l.from.0 l.to.0)) ≡ False = rw (m.from_is, m.to_is) at m.fails in clash (cc (rw n at f)))
+        (composed-first D S a b sup d.from.0 d.to.0 (edge-from a d m.met) (λ n. clash (cc (rw n at m.fails)))
         (λ p q e k. holds_of (onward D S b sup p q) (λ n.
         let t = has_listed s labels rows shape F a p q e.has in
-        both_ways (before-below p q l.from.0 l.to.0 k) (rw (t.from_is, t.to_is) at (m.least t.edge (record { member = t.«in»; passes = t.by }) (rw (t.from_is, t.to_is) n))))))
+        both_ways (before-below p q d.from.0 d.to.0 k) (rw (t.from_is, t.to_is) at (m.least t.edge (record { member = t.«in»; passes = t.by }) (rw (t.from_is, t.to_is) n))))))
 
-    pub composed-hold : l.found ≡ false → Holds ≡ composed D S a b sup
+    pub composed-hold : l.failing ≡ None → Holds ≡ composed D S a b sup
     composed-hold h =
         sym
         (composed-all D S a b sup

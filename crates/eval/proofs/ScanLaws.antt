@@ -2,7 +2,6 @@
 --     scan-case     a place that fails, else an undecided one, else all hold
 --     turn-case     a check that does not hold, else all hold
 use Prim.Native.Nat.{ℕ}
-use mathlib.Core.Bool.{Bool, true, false, cond}
 use mathlib.Core.Path.{◌≡◌, refl, ap, ◌∙◌}
 use mathlib.Core.Logic.{⊎_elim}
 use mathlib.Core.List.Memᴰ.{cases_cons}
@@ -18,28 +17,29 @@ use Rattle.eval.specs.declared.verdict.Witnesses.{Witnesses}
 use Rattle.eval.specs.declared.verdict.Verdict.{Verdict}
 use Rattle.eval.specs.declared.verdict.Verdict.TheVariants.{Holds, Fails, UnhandledAxiom, UnhandledConcept, GuardedRoleHasEdges}
 use Rattle.eval.specs.Standing.{fresh, and_next}
-use Rattle.eval.specs.Verdict.{scan, fails_at, in_turn, or_else}
+use Rattle.std.specs.Prelude.{Option, Some, None}
+use Rattle.eval.specs.Verdict.{open_or_holds, scan, fails_at, in_turn, or_else}
 
 module _ {A : Type 0} (f : A → Judgement) (w : A → Witnesses) (C : Verdict → Type 0) where
   case-from : (xs : List A) (s : Standing)
       → ((x : A) → Member x xs → f x ≡ False → C (Fails (w x)))
-      → (s.noted ≡ true → C (UnhandledConcept s.tag))
+      → ((t : ℕ) → s.noted ≡ Some t → C (UnhandledConcept t))
       → ((x : A) (t : ℕ) → Member x xs → f x ≡ Unresolved t → C (UnhandledConcept t))
-      → (s.noted ≡ false → ((x : A) → Member x xs → f x ≡ True) → C Holds)
+      → (s.noted ≡ None → ((x : A) → Member x xs → f x ≡ True) → C Holds)
       → C (scan f w s xs)
   unfolding scan
   case-from [] s fails was opens holds = go s.noted refl
     where
-      go : (b : Bool) → s.noted ≡ b → C (cond b (UnhandledConcept s.tag) Holds)
-      go true q = was q
-      go false q = holds q (λ x m. absurd (nothing-in m))
+      go : (n : Option ℕ) → s.noted ≡ n → C (open_or_holds n)
+      go (Some t) q = was t q
+      go None q = holds q (λ x m. absurd (nothing-in m))
   case-from (x ∷ xs) s fails was opens holds = go (f x) refl (case-from xs)
     where
       go : (j : Judgement) → f x ≡ j
           → ((s : Standing) → ((x : A) → Member x xs → f x ≡ False → C (Fails (w x)))
-          → (s.noted ≡ true → C (UnhandledConcept s.tag))
+          → ((t : ℕ) → s.noted ≡ Some t → C (UnhandledConcept t))
           → ((x : A) (t : ℕ) → Member x xs → f x ≡ Unresolved t → C (UnhandledConcept t))
-          → (s.noted ≡ false → ((x : A) → Member x xs → f x ≡ True) → C Holds)
+          → (s.noted ≡ None → ((x : A) → Member x xs → f x ≡ True) → C Holds)
           → C (scan f w s xs))
           → C (fails_at j (w x) (scan f w (and_next s j) xs))
       go False q ih = fails x (here refl) q
@@ -47,14 +47,14 @@ module _ {A : Type 0} (f : A → Judgement) (w : A → Witnesses) (C : Verdict �
           ih s (λ y m. fails y (there m)) was (λ y t m. opens y t (there m))
           (λ n h. holds n (λ y m. ⊎_elim (λ (e : y ≡ x). ap f e ∙ q) (λ (k : Member y xs). h y k) (cases_cons m)))
       go (Unresolved t) q ih =
-          ih (and_next s (Unresolved t)) (λ y m. fails y (there m)) (λ n. opens x t (here refl) q) (λ y u m. opens y u (there m)) (λ n h. clash (cc))
+          ih (and_next s (Unresolved t)) (λ y m. fails y (there m)) (λ u n. opens x u (here refl) (cc)) (λ y u m. opens y u (there m)) (λ n h. clash (cc))
 
   pub scan-case : (xs : List A)
       → ((x : A) → Member x xs → f x ≡ False → C (Fails (w x)))
       → ((x : A) (t : ℕ) → Member x xs → f x ≡ Unresolved t → C (UnhandledConcept t))
       → (((x : A) → Member x xs → f x ≡ True) → C Holds)
       → C (scan f w fresh xs)
-  scan-case xs fails opens holds = case-from xs fresh fails (λ n. clash (cc)) opens (λ n h. holds h)
+  scan-case xs fails opens holds = case-from xs fresh fails (λ t n. clash (cc)) opens (λ n h. holds h)
 
 -- a claim for each verdict, with another one for Holds
 abbrev pub Case : Type 0 → (Verdict → Type 0) → Verdict → Type 0

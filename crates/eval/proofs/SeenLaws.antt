@@ -1,8 +1,9 @@
 -- Going through edges one by one: what was seen of the first i, and what it says of a check over all edges of a role.
 --     seen_start, seen_skip, seen_next, seen_end     a loop over the list
 use Prim.Native.Nat.{ℕ, ◌+◌, ◌<◌, ◌≤◌}
-use mathlib.Core.Bool.{Bool, true, false, cond, not, ◌&&◌, ◌||◌}
-use mathlib.Core.Path.{◌≡◌, refl, sym, ap, ◌∙◌}
+use mathlib.Core.Bool.{Bool, true, false, cond, ◌&&◌, ◌||◌}
+use mathlib.Core.Path.{◌≡◌, refl, sym, ap, subst, ◌∙◌}
+use Rattle.std.specs.Prelude.{Option, Some, None}
 use mathlib.Core.Logic.{◌⊎◌, ⊎_elim, inl, inr}
 use mathlib.Core.List.Memᴰ.{append_cases}
 use mathlib.Core.List.Memᴰ.{append_left}
@@ -21,7 +22,7 @@ use Rattle.eval.specs.declared.edges.Edge.{Edge}
 use Rattle.eval.specs.declared.judgement.Judgement.{Judgement}
 use Rattle.eval.specs.declared.judgement.Judgement.TheVariants.{False, True, Unresolved}
 use Rattle.eval.specs.declared.lowest.Lowest.{Lowest}
-use Rattle.eval.specs.Lowest.{nothing_yet, before, lower, lowest_next, Among, Least, LeftOpen, Seen}
+use Rattle.eval.specs.Lowest.{nothing_yet, before, lower_of, lower, lowest_next, Among, Least, LeftOpen, Seen}
 use Rattle.eval.proofs.Clash.{clash}
 
 -- ---- the order
@@ -53,24 +54,21 @@ before_self a b = rw (le-ltb a a (omega arith), le-ltb b b (omega arith), eq-eqb
 
 -- ---- one more edge
 module _ (P Q : Edge → Type 0) (f : Edge → Judgement) (e : Edge) (keep : (x : Edge) → P x → Q x) (add : Q e) (split : (x : Edge) → Q x → P x ⊎ (x ≡ e)) (l : Lowest) (S : Seen P f l) where
-  open_kept : l.noted ≡ true → LeftOpen Q f l.tag
-  open_kept h = let o = S.opens h in record { edge = o.edge; met = keep o.edge o.met; unresolved = o.unresolved }
+  open_kept : (t : ℕ) → l.noted ≡ Some t → LeftOpen Q f t
+  open_kept t h = let o = S.opens t h in record { edge = o.edge; met = keep o.edge o.met; unresolved = o.unresolved }
 
-  closed-kept : {j : Judgement} → f e ≡ j → ((t : ℕ) → j ≡ Unresolved t → ⊥) → l.noted ≡ false → (x : Edge) (t : ℕ) → Q x → f x ≡ Unresolved t → ⊥
+  closed-kept : {j : Judgement} → f e ≡ j → ((t : ℕ) → j ≡ Unresolved t → ⊥) → l.noted ≡ None → (x : Edge) (t : ℕ) → Q x → f x ≡ Unresolved t → ⊥
   closed-kept p n h x t q u = ⊎_elim (λ m. S.closed h x t m u) (λ (i : x ≡ e). n t (sym p ∙ (rw i at u))) (split x q)
 
-  sound-kept : {j : Judgement} → f e ≡ j → (j ≡ False → ⊥) → l.found ≡ false → (x : Edge) → Q x → f x ≡ False → ⊥
+  sound-kept : {j : Judgement} → f e ≡ j → (j ≡ False → ⊥) → l.failing ≡ None → (x : Edge) → Q x → f x ≡ False → ⊥
   sound-kept p n h x q u = ⊎_elim (λ m. S.sound h x m u) (λ (i : x ≡ e). n (sym p ∙ (rw i at u))) (split x q)
 
-  least_kept : {j : Judgement} → f e ≡ j → (j ≡ False → ⊥) → l.found ≡ true → Least Q f l
-  least_kept p n h =
-      let m = S.fails h in
+  least_kept : {j : Judgement} → f e ≡ j → (j ≡ False → ⊥) → (d : Edge) → l.failing ≡ Some d → Least Q f d
+  least_kept p n d h =
+      let m = S.fails d h in
       record {
-        edge = m.edge;
-        met = keep m.edge m.met;
+        met = keep d m.met;
         fails = m.fails;
-        from_is = m.from_is;
-        to_is = m.to_is;
         least = λ x q u. ⊎_elim (λ k. m.least x k u) (λ (i : x ≡ e). absurd (n (sym p ∙ (rw i at u)))) (split x q);
       }
 
@@ -84,60 +82,46 @@ module _ (P Q : Edge → Type 0) (f : Edge → Judgement) (e : Edge) (keep : (x 
 
   seen-open : (t : ℕ) → f e ≡ Unresolved t → Seen Q f (lowest_next l (Unresolved t) e)
   seen-open t p = record {
-    fails = λ h. let m = least_kept p (λ i. clash (cc)) h in record { edge = m.edge; met = m.met; fails = m.fails; from_is = m.from_is; to_is = m.to_is; least = m.least };
+    fails = least_kept p (λ i. clash (cc));
     sound = sound-kept p (λ i. clash (cc));
-    opens = λ h. record { edge = e; met = add; unresolved = p };
+    opens = λ u h. record { edge = e; met = add; unresolved = cc };
     closed = λ h. clash (cc);
   }
 
-  seen_false : f e ≡ False → Seen Q f (lower l e)
-  seen_false p = go l.found (before e.from.0 e.to.0 l.from.0 l.to.0) refl refl
-    where
-      new : Lowest
-      new = record { found = true; from = e.from; to = e.to; noted = l.noted; tag = l.tag }
+  -- where the lowest is now the edge d
+  seen_new : f e ≡ False → (d : Edge) → Least Q f d → Seen Q f (record { failing = Some d; noted = l.noted })
+  seen_new p d L = record {
+    fails = λ x i. let same : d ≡ x = cc in subst (Least Q f) same L;
+    sound = λ i. clash (cc);
+    opens = open_kept;
+    closed = closed-kept p (λ t i. clash (cc));
+  }
 
-      go : (b c : Bool) → l.found ≡ b → before e.from.0 e.to.0 l.from.0 l.to.0 ≡ c → Seen Q f (cond (b && not c) l (record { found = true; from = e.from; to = e.to; noted = l.noted; tag = l.tag }))
-      go true false h k =
-          let m = S.fails h in
-          record {
-            fails = λ i. record {
-              edge = m.edge;
-              met = keep m.edge m.met;
-              fails = m.fails;
-              from_is = m.from_is;
-              to_is = m.to_is;
-              least = λ x q u. ⊎_elim (λ n. m.least x n u) (λ (n : x ≡ e). rw n k) (split x q);
-            };
-            sound = λ i. clash (cc);
-            opens = open_kept;
-            closed = closed-kept p (λ t i. clash (cc));
+  seen_false : f e ≡ False → Seen Q f (lower l e)
+  seen_false p = seen_new p (lower_of l.failing e) (go l.failing refl)
+    where
+      go : (o : Option Edge) → l.failing ≡ o → Least Q f (lower_of o e)
+      go None h = record {
+        met = add;
+        fails = p;
+        least = λ x q u. ⊎_elim (λ n. absurd (S.sound h x n u)) (λ (n : x ≡ e). rw n (before_self e.from.0 e.to.0)) (split x q);
+      }
+      go (Some d) h = by (before e.from.0 e.to.0 d.from.0 d.to.0) refl
+        where
+          m : Least P f d
+          m = S.fails d h
+
+          by : (c : Bool) → before e.from.0 e.to.0 d.from.0 d.to.0 ≡ c → Least Q f (cond c e d)
+          by true k = record {
+            met = add;
+            fails = p;
+            least = λ x q u. ⊎_elim (λ n. before-trans x.from.0 x.to.0 e.from.0 e.to.0 d.from.0 d.to.0 k (m.least x n u)) (λ (n : x ≡ e). rw n (before_self e.from.0 e.to.0)) (split x q);
           }
-      go true true h k = record {
-        fails = λ i. record {
-          edge = e;
-          met = add;
-          fails = p;
-          from_is = refl;
-          to_is = refl;
-          least = λ x q u. ⊎_elim (λ n. before-trans x.from.0 x.to.0 e.from.0 e.to.0 l.from.0 l.to.0 k ((S.fails h).least x n u)) (λ (n : x ≡ e). rw n (before_self e.from.0 e.to.0)) (split x q);
-        };
-        sound = λ i. clash (cc);
-        opens = open_kept;
-        closed = closed-kept p (λ t i. clash (cc));
-      }
-      go false c h k = record {
-        fails = λ i. record {
-          edge = e;
-          met = add;
-          fails = p;
-          from_is = refl;
-          to_is = refl;
-          least = λ x q u. ⊎_elim (λ n. absurd (S.sound h x n u)) (λ (n : x ≡ e). rw n (before_self e.from.0 e.to.0)) (split x q);
-        };
-        sound = λ i. clash (cc);
-        opens = open_kept;
-        closed = closed-kept p (λ t i. clash (cc));
-      }
+          by false k = record {
+            met = keep d m.met;
+            fails = m.fails;
+            least = λ x q u. ⊎_elim (λ n. m.least x n u) (λ (n : x ≡ e). rw n k) (split x q);
+          }
 
   seen_more : {j : Judgement} → j ≡ f e → Seen Q f (lowest_next l j e)
   seen_more {j} p = go j p
@@ -155,9 +139,9 @@ module _ (hit : Edge → Bool) (f : Edge → Judgement) (es : List Edge) where
 
   pub seen_start : SeenTo 0 nothing_yet
   seen_start = record {
-    fails = λ h. clash (cc);
+    fails = λ d h. clash (cc);
     sound = λ h x m u. absurd (nothing-in m.member);
-    opens = λ h. clash (cc);
+    opens = λ t h. clash (cc);
     closed = λ h x t m u. absurd (nothing-in m.member);
   }
 
@@ -179,16 +163,9 @@ module _ (hit : Edge → Bool) (f : Edge → Judgement) (es : List Edge) where
     seen_skip {l} n S =
         let old : (x : Edge) → Among hit (take (i + 1) es) x → Among hit (take i es) x = λ x m. ⊎_elim (λ k. k) (λ (e : x ≡ get_or es i d). clash (cc (ap hit e, m.passes))) (split x m) in
         record {
-          fails = λ t. let m = S.fails t in record {
-            edge = m.edge;
-            met = kept m.edge m.met;
-            fails = m.fails;
-            from_is = m.from_is;
-            to_is = m.to_is;
-            least = λ x q u. m.least x (old x q) u;
-          };
+          fails = λ e t. let m = S.fails e t in record { met = kept e m.met; fails = m.fails; least = λ x q u. m.least x (old x q) u };
           sound = λ t x q u. S.sound t x (old x q) u;
-          opens = λ t. let o = S.opens t in record { edge = o.edge; met = kept o.edge o.met; unresolved = o.unresolved };
+          opens = λ u t. let o = S.opens u t in record { edge = o.edge; met = kept o.edge o.met; unresolved = o.unresolved };
           closed = λ t x u q v. S.closed t x u (old x q) v;
         }
 

@@ -16,7 +16,8 @@ use Rattle.eval.proofs.Clash.{clash}
 use Rattle.eval.specs.declared.judgement.Judgement.{Judgement}
 use Rattle.eval.specs.declared.judgement.Judgement.TheVariants.{False, True, Unresolved}
 use Rattle.eval.specs.declared.standing.Standing.{Standing}
-use Rattle.eval.specs.Standing.{fresh, some_next, some_close}
+use Rattle.std.specs.Prelude.{Option, Some, None}
+use Rattle.eval.specs.Standing.{fresh, some_next, unless_noted, some_close}
 use Rattle.eval.specs.Judge.{some_from}
 use Rattle.eval.proofs.Folds.{some-ended}
 
@@ -36,35 +37,35 @@ module _ (f : ℕ → Judgement) where
 
   case-from : (C : Judgement → Type 0) (xs : List ℕ) (s : Standing)
       → (s.ended ≡ true → C True)
-      → (s.ended ≡ false → s.noted ≡ true → NoneTrue xs → C (Unresolved s.tag))
+      → (s.ended ≡ false → (t : ℕ) → s.noted ≡ Some t → NoneTrue xs → C (Unresolved t))
       → ((x : ℕ) → Member x xs → f x ≡ True → C True)
       → ((x t : ℕ) → Member x xs → f x ≡ Unresolved t → NoneTrue xs → C (Unresolved t))
-      → (s.noted ≡ false → AllFalse xs → C False)
+      → (s.noted ≡ None → AllFalse xs → C False)
       → C (some_from f s xs)
   unfolding some_from
   case-from C [] s over was hit opens none = go s.ended s.noted refl refl
     where
-      go : (b n : Bool) → s.ended ≡ b → s.noted ≡ n → C (cond b True (cond n (Unresolved s.tag) False))
+      go : (b : Bool) (n : Option ℕ) → s.ended ≡ b → s.noted ≡ n → C (cond b True (unless_noted n False))
       go true n p q = over p
-      go false true p q = was p q (λ x m. absurd (nothing-in m))
-      go false false p q = none q (λ x m. absurd (nothing-in m))
+      go false (Some t) p q = was p t q (λ x m. absurd (nothing-in m))
+      go false None p q = none q (λ x m. absurd (nothing-in m))
   case-from C (x ∷ xs) s over was hit opens none = go (f x) refl (case-from C xs)
     where
       go : (j : Judgement) → f x ≡ j
           → ((s : Standing) → (s.ended ≡ true → C True)
-          → (s.ended ≡ false → s.noted ≡ true → NoneTrue xs → C (Unresolved s.tag))
+          → (s.ended ≡ false → (t : ℕ) → s.noted ≡ Some t → NoneTrue xs → C (Unresolved t))
           → ((x : ℕ) → Member x xs → f x ≡ True → C True)
           → ((x t : ℕ) → Member x xs → f x ≡ Unresolved t → NoneTrue xs → C (Unresolved t))
-          → (s.noted ≡ false → AllFalse xs → C False)
+          → (s.noted ≡ None → AllFalse xs → C False)
           → C (some_from f s xs))
           → C (some_from f (some_next s j) xs)
       go False q ih =
           let h : f x ≡ True → ⊥ = λ e. clash (cc) in
-          ih s over (λ p n t. was p n (none_more h t)) (λ y m. hit y (there m)) (λ y t m e a. opens y t (there m) e (none_more h a)) (λ n a. none n (all_more q a))
-      go True q ih = rw (some-ended f (record { ended = true; noted = s.noted; tag = s.tag }) xs refl) (hit x (here refl) q)
+          ih s over (λ p u n t. was p u n (none_more h t)) (λ y m. hit y (there m)) (λ y t m e a. opens y t (there m) e (none_more h a)) (λ n a. none n (all_more q a))
+      go True q ih = rw (some-ended f (record { ended = true; noted = s.noted }) xs refl) (hit x (here refl) q)
       go (Unresolved t) q ih =
           let h : f x ≡ True → ⊥ = λ e. clash (cc) in
-          ih (record { ended = s.ended; noted = true; tag = t }) over (λ p n a. opens x t (here refl) q (none_more h a)) (λ y m. hit y (there m)) (λ y u m e a. opens y u (there m) e (none_more h a))
+          ih (record { ended = s.ended; noted = Some t }) over (λ p u n a. opens x u (here refl) (cc) (none_more h a)) (λ y m. hit y (there m)) (λ y u m e a. opens y u (there m) e (none_more h a))
           (λ n a. clash (cc))
 
   pub some-case : (C : Judgement → Type 0) (xs : List ℕ)
@@ -73,7 +74,7 @@ module _ (f : ℕ → Judgement) where
       → (AllFalse xs → C False)
       → C (some_from f fresh xs)
   some-case C xs hit opens none =
-      case-from C xs fresh (λ e. clash (cc)) (λ e n a. clash (cc)) hit opens (λ n a. none a)
+      case-from C xs fresh (λ e. clash (cc)) (λ e t n a. clash (cc)) hit opens (λ n a. none a)
 
   pub some-true : (xs : List ℕ) (x : ℕ) → Member x xs → f x ≡ True → some_from f fresh xs ≡ True
   some-true xs x m e =

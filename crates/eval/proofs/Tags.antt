@@ -16,7 +16,8 @@ use Rattle.deck.specs.Sound.{Sound, ConceptFits, counts_in}
 use Rattle.eval.specs.declared.judgement.Judgement.{Judgement}
 use Rattle.eval.specs.declared.judgement.Judgement.TheVariants.{False, True, Unresolved}
 use Rattle.eval.specs.declared.standing.Standing.{Standing}
-use Rattle.eval.specs.Standing.{fresh, and_next}
+use Rattle.std.specs.Prelude.{Option, Some, None}
+use Rattle.eval.specs.Standing.{fresh, and_next, unless_noted}
 use Rattle.eval.specs.Numbered.{numbered}
 use Rattle.eval.specs.Lists.{every}
 use Rattle.eval.specs.Structure.{Structure, successors_of, inverse}
@@ -65,39 +66,44 @@ and-each f p s (x ∷ xs) e h = go (f x) refl (p x) refl (λ i. and-each f p (an
     go j q true r ih = ih tt
     go False q false r ih = absurd (let y : False ≡ True = sym (and-ended f (and_next s (f x)) xs (rw q refl)) ∙ e in clash (cc))
     go True q false r ih = absurd (h x (here refl) r q)
-    go (Unresolved t) q false r ih = absurd (noted (and_next s (f x)) xs (rw q refl) e)
+    go (Unresolved t) q false r ih = absurd (noted (and_next s (f x)) xs (rw q (λ i. clash (cc))) e)
       where
-        noted : (s : Standing) (l : List ℕ) → s.noted ≡ true → and_from f s l ≡ True → ⊥
+        noted : (s : Standing) (l : List ℕ) → (s.noted ≡ None → ⊥) → and_from f s l ≡ True → ⊥
         noted s [] n e = last s.ended s.noted n e
           where
-            last : (b n : Bool) → n ≡ true → cond b False (cond n (Unresolved s.tag) True) ≡ True → ⊥
+            last : (b : Bool) (n : Option ℕ) → (n ≡ None → ⊥) → cond b False (unless_noted n True) ≡ True → ⊥
             last true n q e = clash (cc)
-            last false true q e = clash (cc)
-            last false false q e = clash (cc)
+            last false (Some u) q e = clash (cc)
+            last false None q e = q refl
         noted s (y ∷ ys) n e = noted (and_next s (f y)) ys (still (f y)) e
           where
-            still : (j : Judgement) → (and_next s j).noted ≡ true
+            still : (j : Judgement) → (and_next s j).noted ≡ None → ⊥
             still False = n
             still True = n
-            still (Unresolved u) = refl
+            still (Unresolved u) = λ i. clash (cc)
+
+-- the construct that was noted; 0 where there is none
+abbrev tag_in : Option ℕ → ℕ
+tag_in None = 0
+tag_in (Some t) = t
 
 module _ (f : ℕ → Judgement) (p : ℕ → Bool) (g : ℕ → ℕ) where
   and-tag : (s : Standing) (l : List ℕ) (t : ℕ) → and_from f s l ≡ Unresolved t
       → ((o : ℕ) → Member o l → p o ≡ false → f o ≡ True → ⊥)
       → ((o : ℕ) → Member o l → p o ≡ true → decided (f o) ≡ true)
       → ((o u : ℕ) → Member o l → f o ≡ Unresolved u → u ≡ g o)
-      → t ≡ last_open p g s.tag l
+      → t ≡ last_open p g (tag_in s.noted) l
   unfolding and_from last_open
   and-tag s [] t e never sure tags = go s.ended s.noted e
     where
-      go : (b n : Bool) → cond b False (cond n (Unresolved s.tag) True) ≡ Unresolved t → t ≡ s.tag
+      go : (b : Bool) (n : Option ℕ) → cond b False (unless_noted n True) ≡ Unresolved t → t ≡ tag_in n
       go true n e = clash (cc)
-      go false true e = cc
-      go false false e = clash (cc)
+      go false (Some u) e = cc
+      go false None e = clash (cc)
   and-tag s (x ∷ xs) t e never sure tags =
       rw (← go (f x) refl (p x) refl) (and-tag (and_next s (f x)) xs t e (λ o m. never o (there m)) (λ o m. sure o (there m)) (λ o u m. tags o u (there m)))
     where
-      go : (j : Judgement) → f x ≡ j → (b : Bool) → p x ≡ b → (and_next s (f x)).tag ≡ cond b s.tag (g x)
+      go : (j : Judgement) → f x ≡ j → (b : Bool) → p x ≡ b → tag_in (and_next s (f x)).noted ≡ cond b (tag_in s.noted) (g x)
       go False q b r = absurd (let y : False ≡ Unresolved t = sym (and-ended f (and_next s (f x)) xs (rw q refl)) ∙ e in clash (cc))
       go True q true r = rw q
       go True q false r = absurd (never x (here refl) r q)

@@ -1,6 +1,6 @@
 -- What judging one concept or axiom over a lent structure answers. Document 01, section 1: "1 to 4; then records in part order, each tested for 5, 6, 7; .. 10, 11 for judging one concept or axiom over a lent structure".
 use Rattle.std.specs.Prelude.{Result, Ok, Err}
-use Rattle.std.specs.Prelude.{ℕ, Bool, ◌&&◌, List, ltb}
+use Rattle.std.specs.Prelude.{ℕ, Bool, ◌&&◌, ◌≡◌, List, ltb}
 use Rattle.deck.specs.Refusal.{DeckAnswer}
 use Rattle.deck.specs.declared.refusal.Refusal.{Refusal}
 use Rattle.deck.specs.declared.refusal.Refusal.TheVariants.{ForeignStructure, AbsentIndex}
@@ -8,6 +8,7 @@ use Rattle.deck.specs.Answer.{unless, or_else}
 use Rattle.deck.specs.Records.{deck_answer}
 use Rattle.deck.specs.Deck.{concept_count, axiom_count, axiom_at}
 use Rattle.deck.specs.Content.{deck_of}
+use Rattle.eval.specs.declared.lent.Lent.{Lent}
 use Rattle.eval.specs.declared.shape.Shape.{Shape}
 use Rattle.eval.specs.declared.judgement.Judgement.{Judgement}
 use Rattle.eval.specs.declared.verdict.Verdict.{Verdict}
@@ -30,6 +31,14 @@ shape_of elements edges = record { elements = elements; edges = edges }
 -- "1 to 4; then records in part order, each tested for 5, 6, 7", then 10
 unfoldable pub lent_answer : List ℕ → List ℕ → List (List ℕ) → Shape → DeckAnswer
 lent_answer s labels rows shape = or_else (deck_answer s) (unless (structure_fits (deck_of s) labels rows shape) ForeignStructure (Ok tt))
+
+-- a lent deck and structure are those of these buffers, which were not refused
+pub record LentAs (l : Lent) (s labels : List ℕ) (rows : List (List ℕ)) (shape : Shape) : Type 0 where
+  pub deck : l.deck.bytes.now ≡ s
+  pub labels_same : l.labels.now ≡ labels
+  pub edges : l.edges.now ≡ rows
+  pub shape_same : l.shape ≡ shape
+  pub answer : lent_answer s labels rows shape ≡ Ok tt
 
 -- then 11: "axiom, concept or element index past its count"
 abbrev pub index_answer : Bool → DeckAnswer

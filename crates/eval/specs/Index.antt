@@ -3,7 +3,7 @@
 --     0, 1, 2                  low and high: edges low to high - 1 are covered; how many runs there are
 --     3 + x                    the number of the first run of element x, counted from 1; 0 for none
 --     1 + n + 2m, 2 + n + 2m   where run m starts, and the number of the next run of the same element; 0 for none
-use Rattle.std.specs.Prelude.{ℕ, ◌+◌, ◌*◌, ◌<◌, ◌≤◌, cond, ◌≡◌, List, [], length, get_or, eqb}
+use Rattle.std.specs.Prelude.{ℕ, ◌+◌, ◌*◌, ◌<◌, ◌≤◌, cond, ◌≡◌, List, [], Option, Some, None, length, get_or, eqb}
 use Rattle.eval.specs.Edges.{edge_of}
 use Rattle.eval.specs.declared.index.Walk.{Walk}
 
@@ -70,6 +70,14 @@ pub record Jumped (rows : List (List ℕ)) (n count : ℕ) (index : List ℕ) (x
   pub gap : Gap rows x i w.at
   pub ahead : Ahead rows n index x w.at w.run
 
+-- from edge i on to the next that leaves x, or to the end
+pub record Advanced (rows : List (List ℕ)) (n count : ℕ) (index : List ℕ) (x i : ℕ) (w : Walk) : Type 0 where
+  pub on : i ≤ w.at
+  pub within : w.at ≤ count
+  pub gap : Gap rows x i w.at
+  pub ahead : Ahead rows n index x w.at w.run
+  pub here : w.at < count → from_at rows w.at ≡ x
+
 -- ---- making an index, from the last edge down
 -- run h starts just after edge i, and leaves the same element
 pub record Follows (rows : List (List ℕ)) (n : ℕ) (index : List ℕ) (h i : ℕ) : Type 0 where
@@ -83,8 +91,8 @@ pub record Built (rows : List (List ℕ)) (n count i most : ℕ) (index : List �
   pub few : i + most ≤ count
   pub runs : Runs rows n i count most (head index) (start n index) (next n index)
 
--- edge i comes in, and there are r runs; with r = 0 there is no room for it
-pub record Entered (rows : List (List ℕ)) (n count i : ℕ) (was is : List ℕ) (r : ℕ) : Type 0 where
+-- edge i comes in, and there are so many runs, or there is no room for it
+pub record Entered (rows : List (List ℕ)) (n count i : ℕ) (was is : List ℕ) (r : Option ℕ) : Type 0 where
   pub size : length is ≡ length was
-  pub full : r ≡ 0 → is ≡ was
-  pub built : 0 < r → Built rows n count i r is
+  pub full : r ≡ None → is ≡ was
+  pub built : (runs : ℕ) → r ≡ Some runs → Built rows n count i runs is

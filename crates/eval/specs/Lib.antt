@@ -4,11 +4,13 @@ pub mod Structure
 pub mod Standing
 pub mod Judge
 pub mod Verdict
+pub mod Relation
 pub mod Truth
 pub mod Standard
 pub mod Edges
 pub mod Lent
 pub mod Memo
+pub mod InLent
 pub mod Leaf
 pub mod Lowest
 pub mod Index
@@ -17,3 +19,4 @@ pub mod Demand
 pub mod Justified
 pub mod Foreign
 pub mod Entry
+pub mod Leaving

@@ -3,8 +3,7 @@ use Rattle.std.specs.Prelude.{ℕ, ◌+◌, ◌-◌, ◌*◌, ◌/◌, ◌%◌, 
 use Rattle.deck.specs.Deck.{Deck}
 use Rattle.eval.specs.declared.judgement.Judgement.{Judgement}
 use Rattle.eval.specs.declared.judgement.Judgement.TheVariants.{False, True, Unresolved}
-use Rattle.eval.specs.declared.memo.Recalled.{Recalled}
-use Rattle.eval.specs.declared.memo.Recalled.TheVariants.{Known, Unknown}
+use Rattle.std.specs.Prelude.{Option, Some, None}
 use Rattle.eval.specs.Judge.{judge}
 use Rattle.eval.specs.Structure.{Structure}
 
@@ -27,11 +26,11 @@ unfoldable pub word_for : List ℕ → ℕ → ℕ
 word_for memo k = get_or memo (k % length memo) 0
 
 -- what the table has for a key
-abbrev pub recalled_as : ℕ → Recalled
-recalled_as d = cond (eqb d 0) Unknown (Known (judgement_of d))
+abbrev pub recalled_as : ℕ → Option Judgement
+recalled_as d = cond (eqb d 0) None (Some (judgement_of d))
 
-unfoldable pub recalled : List ℕ → ℕ → Recalled
-recalled memo k = cond (eqb (word_for memo k / 16) (k / length memo)) (recalled_as (word_for memo k % 16)) Unknown
+unfoldable pub recalled : List ℕ → ℕ → Option Judgement
+recalled memo k = cond (eqb (word_for memo k / 16) (k / length memo)) (recalled_as (word_for memo k % 16)) None
 
 -- the table with a code at a key; the same table where the word would not fit 16 bits
 unfoldable pub stored : List ℕ → ℕ → ℕ → List ℕ

@@ -1,5 +1,5 @@
 -- Checking an axiom (`check_axiom`): document 01, section 5.
-use Rattle.std.specs.Prelude.{ℕ, ◌+◌, Bool, true, false, cond, ◌||◌, ◌&&◌, List, [], ◌∷◌, map, eqb, leb, ltb}
+use Rattle.std.specs.Prelude.{ℕ, ◌+◌, Bool, true, false, cond, ◌||◌, ◌&&◌, List, [], ◌∷◌, map, Option, Some, None, eqb, leb, ltb}
 use Rattle.deck.specs.Deck.{Deck, Role, role_id, Axiom}
 use Rattle.eval.specs.declared.judgement.Judgement.{Judgement}
 use Rattle.eval.specs.declared.judgement.Judgement.TheVariants.{False, True, Unresolved}
@@ -76,9 +76,14 @@ unfoldable pub at_most_one : List Judgement → Judgement
 at_most_one js = disjointness (votes no_votes js)
 
 -- ---- place after place
+-- the construct that was noted, if any
+abbrev pub open_or_holds : Option ℕ → Verdict
+open_or_holds None = Holds
+open_or_holds (Some t) = UnhandledConcept t
+
 -- no place fails: "of several unresolved constructs the last noted counts"
 abbrev pub verdict_of : Standing → Verdict
-verdict_of s = cond s.noted (UnhandledConcept s.tag) Holds
+verdict_of s = open_or_holds s.noted
 
 abbrev pub fails_at : Judgement → Witnesses → Verdict → Verdict
 fails_at False w v = Fails w
@@ -157,6 +162,11 @@ chain D S (a ∷ b ∷ c ∷ l) sup = UnhandledAxiom 5 2
 -- the pairs of one member in another; a role is not held against itself
 abbrev pub across : Deck → Structure → Role → Role → Verdict
 across D S a b = cond (eqb (role_id a) (role_id b)) Holds (within D S a b)
+
+-- the same, or, turned, the pairs of the other in the one
+abbrev pub across_by : Bool → Deck → Structure → Role → Role → Verdict
+across_by false D S = across D S
+across_by true D S = λ a b. across D S b a
 
 -- each ordered pair of members
 unfoldable pub equivalent : Deck → Structure → List Role → Verdict

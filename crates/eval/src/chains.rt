@@ -1,165 +1,83 @@
 // Two edges, one after the other: chains of two links and transitive roles.
 ghost use Rattle.std.specs.Prelude.{◌≡◌, ◌<◌};
-ghost use Rattle.deck.specs.Content.{deck_of};
 ghost use Rattle.deck.specs.Deck.{role_count};
-ghost use Rattle.eval.specs.Edges.{edges_of, leaves, under};
-ghost use Rattle.eval.specs.Index.{Indexed};
+ghost use Rattle.eval.specs.Edges.{leaves, under};
+ghost use Rattle.eval.specs.InLent.{deck_in, edges_in, structure};
 ghost use Rattle.eval.specs.Judge.{truth};
-ghost use Rattle.eval.specs.Lent.{Fits, structure_of};
 ghost use Rattle.eval.specs.Lowest.{Among, Seen};
 ghost use Rattle.eval.specs.Structure.{has_edge};
 ghost use Rattle.eval.specs.Verdict.{is_holds, onward, composed};
 
 use crate::concepts::truth_of;
-use crate::edges::{edge_at, has_edge, is_sub_role, leaves_by};
-use crate::index::{jump, walk_of};
+use crate::edges::{edge_at, is_sub_role, leaves_by};
+use crate::lent::Judging;
 use crate::lowest::Lowest;
-use crate::shape::Shape;
 use crate::verdict::{Verdict, Witnesses, holds};
 use deck::numbers::{Element, RoleId};
 
-// The lowest edge of b from y whose end is no edge of sup from x.
-fn lowest_onward(
-    deck: &[u8],
-    labels: &[u64],
-    edges: &[[u32; 3]],
-    shape: Shape,
-    index: &[u32],
-    b: RoleId,
-    sup: RoleId,
-    x: Element,
-    y: Element,
-) -> Lowest
-    requires fits { Fits deck.now labels.now edges.now shape }
-    requires b_bound { b.0 < role_count (deck_of deck.now) }
-    requires sup_bound { sup.0 < role_count (deck_of deck.now) }
-    requires indexed { Indexed edges.now shape.elements shape.edges index.now }
-    requires x_lt_elements { x.0 < shape.elements }
-    requires y_lt_elements { y.0 < shape.elements }
-    ensures { Seen (Among (leaves (deck_of deck.now) b.0 y.0) (edges_of edges.now shape.edges)) (λ e. truth (has_edge (deck_of deck.now) (structure_of (deck_of deck.now) labels.now edges.now shape) sup.0 x.0 e.to.0)) result }
-{
-    let count = shape.edges as usize;
-    let mut lowest = Lowest::new();
-    let mut w = walk_of(index, y);
-    while w.at < count {
-        let e = edge_at(edges, w.at);
-        if e.from.0 != y.0 {
-            w = jump(edges, shape.edges, index, shape.elements, y, w);
-            continue;
+impl Judging<'_> {
+    // The lowest edge of b from y whose end is no edge of sup from x.
+    fn lowest_onward(&self, b: RoleId, sup: RoleId, x: Element, y: Element) -> Lowest
+        requires b_bound { b.0 < role_count (deck_in self.now.lent) }
+        requires sup_bound { sup.0 < role_count (deck_in self.now.lent) }
+        requires x_lt_elements { x.0 < self.now.lent.shape.elements }
+        requires y_lt_elements { y.0 < self.now.lent.shape.elements }
+        ensures { Seen (Among (leaves (deck_in self.now.lent) b.0 y.0) (edges_in self.now.lent)) (λ e. truth (has_edge (deck_in self.now.lent) (structure self.now.lent) sup.0 x.0 e.to.0)) result }
+    {
+        let mut lowest = Lowest::new();
+        for e in self.leaving(y) {
+            if leaves_by(&self.lent.deck, e, b, y) {
+                let linked = self.has_edge(sup, x, e.to);
+                lowest = lowest.next(truth_of(linked), e);
+            }
         }
-        w.at += 1;
-        if !leaves_by(deck, e, b, y) {
-            continue;
+        lowest
+    }
+
+    // Each edge of b from y ends where an edge of sup from x does.
+    fn check_onward(&self, b: RoleId, sup: RoleId, x: Element, y: Element) -> Verdict
+        requires b_bound { b.0 < role_count (deck_in self.now.lent) }
+        requires sup_bound { sup.0 < role_count (deck_in self.now.lent) }
+        requires x_lt_elements { x.0 < self.now.lent.shape.elements }
+        requires y_lt_elements { y.0 < self.now.lent.shape.elements }
+        ensures { result ≡ onward (deck_in self.now.lent) (structure self.now.lent) b.0 sup.0 x.0 y.0 }
+    {
+        let lowest = self.lowest_onward(b, sup, x, y);
+        match lowest.failing {
+            Some(e) => Verdict::Fails(Witnesses::Three(x, y, e.to)),
+            None => Verdict::Holds,
         }
-        let linked = has_edge(
-            deck,
-            edges,
-            shape.edges,
-            index,
-            shape.elements,
-            sup,
-            x,
-            e.to,
-        );
-        lowest = lowest.next(truth_of(linked), e);
     }
-    lowest
-}
 
-// Each edge of b from y ends where an edge of sup from x does.
-fn check_onward(
-    deck: &[u8],
-    labels: &[u64],
-    edges: &[[u32; 3]],
-    shape: Shape,
-    index: &[u32],
-    b: RoleId,
-    sup: RoleId,
-    x: Element,
-    y: Element,
-) -> Verdict
-    requires fits { Fits deck.now labels.now edges.now shape }
-    requires b_bound { b.0 < role_count (deck_of deck.now) }
-    requires sup_bound { sup.0 < role_count (deck_of deck.now) }
-    requires indexed { Indexed edges.now shape.elements shape.edges index.now }
-    requires x_lt_elements { x.0 < shape.elements }
-    requires y_lt_elements { y.0 < shape.elements }
-    ensures { result ≡ onward (deck_of deck.now) (structure_of (deck_of deck.now) labels.now edges.now shape) b.0 sup.0 x.0 y.0 }
-{
-    let lowest = lowest_onward(deck, labels, edges, shape, index, b, sup, x, y);
-    let found = lowest.found;
-    if found {
-        let to = lowest.to;
-        return Verdict::Fails(Witnesses::Three(x, y, to));
-    }
-    Verdict::Holds
-}
-
-// The lowest edge of a from which an edge of b goes on to an end that is no edge of sup.
-fn lowest_composed(
-    deck: &[u8],
-    labels: &[u64],
-    edges: &[[u32; 3]],
-    shape: Shape,
-    index: &[u32],
-    a: RoleId,
-    b: RoleId,
-    sup: RoleId,
-) -> Lowest
-    requires fits { Fits deck.now labels.now edges.now shape }
-    requires a_bound { a.0 < role_count (deck_of deck.now) }
-    requires b_bound { b.0 < role_count (deck_of deck.now) }
-    requires sup_bound { sup.0 < role_count (deck_of deck.now) }
-    requires indexed { Indexed edges.now shape.elements shape.edges index.now }
-    ensures { Seen (Among (under (deck_of deck.now) a.0) (edges_of edges.now shape.edges)) (λ e. truth (is_holds (onward (deck_of deck.now) (structure_of (deck_of deck.now) labels.now edges.now shape) b.0 sup.0 e.from.0 e.to.0))) result }
-{
-    let count = shape.edges as usize;
-    let mut lowest = Lowest::new();
-    let mut i = 0;
-    while i < count {
-        let e = edge_at(edges, i);
-        i += 1;
-        if !is_sub_role(deck, e, a) {
-            continue;
+    // The lowest edge of a from which an edge of b goes on to an end that is no edge of sup.
+    fn lowest_composed(&self, a: RoleId, b: RoleId, sup: RoleId) -> Lowest
+        requires a_bound { a.0 < role_count (deck_in self.now.lent) }
+        requires b_bound { b.0 < role_count (deck_in self.now.lent) }
+        requires sup_bound { sup.0 < role_count (deck_in self.now.lent) }
+        ensures { Seen (Among (under (deck_in self.now.lent) a.0) (edges_in self.now.lent)) (λ e. truth (is_holds (onward (deck_in self.now.lent) (structure self.now.lent) b.0 sup.0 e.from.0 e.to.0))) result }
+    {
+        let mut lowest = Lowest::new();
+        for i in 0..self.lent.shape.edges as usize {
+            let e = edge_at(self.lent.edges, i);
+            if is_sub_role(&self.lent.deck, e, a) {
+                let v = self.check_onward(b, sup, e.from, e.to);
+                lowest = lowest.next(truth_of(holds(v)), e);
+            }
         }
-        let v = check_onward(deck, labels, edges, shape, index, b, sup, e.from, e.to);
-        lowest = lowest.next(truth_of(holds(v)), e);
+        lowest
     }
-    lowest
-}
 
-// An edge of a and then one of b make an edge of sup.
-pub fn check_composed(
-    deck: &[u8],
-    labels: &[u64],
-    edges: &[[u32; 3]],
-    shape: Shape,
-    index: &[u32],
-    a: RoleId,
-    b: RoleId,
-    sup: RoleId,
-) -> Verdict
-    requires fits { Fits deck.now labels.now edges.now shape }
-    requires a_bound { a.0 < role_count (deck_of deck.now) }
-    requires b_bound { b.0 < role_count (deck_of deck.now) }
-    requires sup_bound { sup.0 < role_count (deck_of deck.now) }
-    requires indexed { Indexed edges.now shape.elements shape.edges index.now }
-    ensures { result ≡ composed (deck_of deck.now) (structure_of (deck_of deck.now) labels.now edges.now shape) a.0 b.0 sup.0 }
-{
-    let lowest = lowest_composed(deck, labels, edges, shape, index, a, b, sup);
-    let found = lowest.found;
-    if found {
-        return check_onward(
-            deck,
-            labels,
-            edges,
-            shape,
-            index,
-            b,
-            sup,
-            lowest.from,
-            lowest.to,
-        );
+    // An edge of a and then one of b make an edge of sup.
+    pub fn check_composed(&self, a: RoleId, b: RoleId, sup: RoleId) -> Verdict
+        requires a_bound { a.0 < role_count (deck_in self.now.lent) }
+        requires b_bound { b.0 < role_count (deck_in self.now.lent) }
+        requires sup_bound { sup.0 < role_count (deck_in self.now.lent) }
+        ensures { result ≡ composed (deck_in self.now.lent) (structure self.now.lent) a.0 b.0 sup.0 }
+    {
+        let lowest = self.lowest_composed(a, b, sup);
+        match lowest.failing {
+            Some(e) => self.check_onward(b, sup, e.from, e.to),
+            None => Verdict::Holds,
+        }
     }
-    Verdict::Holds
 }

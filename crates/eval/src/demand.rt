@@ -1,21 +1,20 @@
 // What an axiom asks of each pair of a role word.
 ghost use Rattle.std.specs.Prelude.{◌≡◌, ◌*◌, ◌<◌};
-ghost use Rattle.deck.specs.Content.{deck_of};
 ghost use Rattle.deck.specs.Deck.{role_count, role_id, role_of};
 ghost use Rattle.eval.specs.Demand.{demand_at, blame, DemandFits};
-ghost use Rattle.eval.specs.Edges.{edges_by, edges_of, under};
+ghost use Rattle.eval.specs.Edges.{edges_by, under};
+ghost use Rattle.eval.specs.InLent.{deck_in, edges_in, structure, Remembered};
+ghost use Rattle.eval.specs.Lent.{EdgeFits};
 ghost use Rattle.eval.specs.Lowest.{Among, Seen};
-ghost use Rattle.eval.specs.Equipped.{Equipped};
-ghost use Rattle.eval.specs.Lent.{EdgeFits, structure_of};
 ghost use Rattle.eval.specs.Structure.{pair};
 ghost use Rattle.eval.specs.Verdict.{at_pairs};
 
-use crate::concepts::{eval_concept, truth_of};
-use crate::edges::{Edge, edge_by, has_pair, is_sub_role};
+use crate::concepts::truth_of;
+use crate::edges::{Edge, edge_by, is_sub_role};
 use crate::judgement::Judgement;
+use crate::lent::Judging;
 use crate::lowest::Lowest;
-use crate::shape::Shape;
-use crate::verdict::{Verdict, Witnesses};
+use crate::verdict::{Verdict, Witnesses, unresolved_or_holds};
 use deck::numbers::{ConceptId, Element, RoleWord};
 
 // The from or the to is in a concept, or the pair is one of another role word.
@@ -26,113 +25,66 @@ pub enum Demand {
     Within(RoleWord),
 }
 
-// Does the edge, as the role word sees it, meet the demand?
-fn meets(
-    deck: &[u8],
-    labels: &[u64],
-    edges: &[[u32; 3]],
-    shape: Shape,
-    index: &[u32],
-    memo: &mut [u16],
-    demand: Demand,
-    e: Edge,
-) -> Judgement
-    requires equipped { Equipped deck.now labels.now edges.now shape index.now memo.old }
-    requires demand_fits { DemandFits (deck_of deck.now) demand }
-    requires edge_fits { EdgeFits (deck_of deck.now) shape.elements e }
-    ensures is { result ≡ demand_at (deck_of deck.now) (structure_of (deck_of deck.now) labels.now edges.now shape) demand (pair e.from.0 e.to.0) }
-    ensures kept { Equipped deck.now labels.now edges.now shape index.now memo.new }
-{
-    let from = e.from;
-    let to = e.to;
-    match demand {
-        Demand::Domain(concept) => eval_concept(
-            deck, labels, edges, shape, index, memo, concept, from,
-        ),
-        Demand::Range(concept) => eval_concept(
-            deck, labels, edges, shape, index, memo, concept, to,
-        ),
-        Demand::Within(role) => truth_of(has_pair(
-            deck,
-            edges,
-            shape.edges,
-            index,
-            shape.elements,
-            role,
-            from,
-            to,
-        )),
-    }
-}
-
-// The witnesses where an edge fails.
-fn blame_at(demand: Demand, from: Element, to: Element) -> Witnesses
-    ensures { result ≡ blame demand (pair from.0 to.0) }
-{
-    match demand {
-        Demand::Domain(_) => Witnesses::One(from),
-        Demand::Range(_) => Witnesses::One(to),
-        Demand::Within(_) => Witnesses::Two(from, to),
-    }
-}
-
-// The lowest pair of the role word that fails the demand.
-fn lowest_failing(
-    deck: &[u8],
-    labels: &[u64],
-    edges: &[[u32; 3]],
-    shape: Shape,
-    index: &[u32],
-    memo: &mut [u16],
-    role: RoleWord,
-    demand: Demand,
-) -> Lowest
-    requires equipped { Equipped deck.now labels.now edges.now shape index.now memo.old }
-    requires role_bound { role.0 < 2 * role_count (deck_of deck.now) }
-    requires demand_fits { DemandFits (deck_of deck.now) demand }
-    ensures is { Seen (Among (under (deck_of deck.now) (role_id (role_of role.0))) (edges_by (role_of role.0) (edges_of edges.now shape.edges))) (λ e. demand_at (deck_of deck.now) (structure_of (deck_of deck.now) labels.now edges.now shape) demand (pair e.from.0 e.to.0)) result }
-    ensures kept { Equipped deck.now labels.now edges.now shape index.now memo.new }
-{
-    let count = shape.edges as usize;
-    let r = role.role_id();
-    let mut lowest = Lowest::new();
-    let mut i = 0;
-    while i < count {
-        let e = edge_by(edges, i, role);
-        i += 1;
-        if !is_sub_role(deck, e, r) {
-            continue;
+impl Demand {
+    // Does the edge, as the role word sees it, meet the demand?
+    fn meets(self, judging: &Judging<'_>, memo: &mut [u16], e: Edge) -> Judgement
+        requires remembered { Remembered judging.now.lent memo.old }
+        requires demand_fits { DemandFits (deck_in judging.now.lent) self }
+        requires edge_fits { EdgeFits (deck_in judging.now.lent) judging.now.lent.shape.elements e }
+        ensures is { result ≡ demand_at (deck_in judging.now.lent) (structure judging.now.lent) self (pair e.from.0 e.to.0) }
+        ensures kept { Remembered judging.now.lent memo.new }
+    {
+        match self {
+            Demand::Domain(concept) => judging.eval_concept(memo, concept, e.from),
+            Demand::Range(concept) => judging.eval_concept(memo, concept, e.to),
+            Demand::Within(role) => truth_of(judging.has_pair(role, e.from, e.to)),
         }
-        lowest = lowest.next(meets(deck, labels, edges, shape, index, memo, demand, e), e);
     }
-    lowest
+
+    // The witnesses where an edge fails.
+    fn blame_at(self, from: Element, to: Element) -> Witnesses
+        ensures { result ≡ blame self (pair from.0 to.0) }
+    {
+        match self {
+            Demand::Domain(_) => Witnesses::One(from),
+            Demand::Range(_) => Witnesses::One(to),
+            Demand::Within(_) => Witnesses::Two(from, to),
+        }
+    }
 }
 
-// Each pair of the role word meets the demand.
-pub fn check_pairs(
-    deck: &[u8],
-    labels: &[u64],
-    edges: &[[u32; 3]],
-    shape: Shape,
-    index: &[u32],
-    memo: &mut [u16],
-    role: RoleWord,
-    demand: Demand,
-) -> Verdict
-    requires equipped { Equipped deck.now labels.now edges.now shape index.now memo.old }
-    requires role_bound { role.0 < 2 * role_count (deck_of deck.now) }
-    requires demand_fits { DemandFits (deck_of deck.now) demand }
-    ensures is { result ≡ at_pairs (deck_of deck.now) (structure_of (deck_of deck.now) labels.now edges.now shape) (role_of role.0) (demand_at (deck_of deck.now) (structure_of (deck_of deck.now) labels.now edges.now shape) demand) (blame demand) }
-    ensures kept { Equipped deck.now labels.now edges.now shape index.now memo.new }
-{
-    let lowest = lowest_failing(deck, labels, edges, shape, index, memo, role, demand);
-    let found = lowest.found;
-    let noted = lowest.noted;
-    if found {
-        return Verdict::Fails(blame_at(demand, lowest.from, lowest.to));
+impl Judging<'_> {
+    // The lowest pair of the role word that fails the demand.
+    fn lowest_failing(&self, memo: &mut [u16], role: RoleWord, demand: Demand) -> Lowest
+        requires remembered { Remembered self.now.lent memo.old }
+        requires role_bound { role.0 < 2 * role_count (deck_in self.now.lent) }
+        requires demand_fits { DemandFits (deck_in self.now.lent) demand }
+        ensures is { Seen (Among (under (deck_in self.now.lent) (role_id (role_of role.0))) (edges_by (role_of role.0) (edges_in self.now.lent))) (λ e. demand_at (deck_in self.now.lent) (structure self.now.lent) demand (pair e.from.0 e.to.0)) result }
+        ensures kept { Remembered self.now.lent memo.new }
+    {
+        let r = role.role_id();
+        let mut lowest = Lowest::new();
+        for i in 0..self.lent.shape.edges as usize {
+            let e = edge_by(self.lent.edges, i, role);
+            if is_sub_role(&self.lent.deck, e, r) {
+                lowest = lowest.next(demand.meets(self, memo, e), e);
+            }
+        }
+        lowest
     }
-    if noted {
-        return Verdict::UnhandledConcept(lowest.tag);
+
+    // Each pair of the role word meets the demand.
+    pub fn check_pairs(&self, memo: &mut [u16], role: RoleWord, demand: Demand) -> Verdict
+        requires remembered { Remembered self.now.lent memo.old }
+        requires role_bound { role.0 < 2 * role_count (deck_in self.now.lent) }
+        requires demand_fits { DemandFits (deck_in self.now.lent) demand }
+        ensures is { result ≡ at_pairs (deck_in self.now.lent) (structure self.now.lent) (role_of role.0) (demand_at (deck_in self.now.lent) (structure self.now.lent) demand) (blame demand) }
+        ensures kept { Remembered self.now.lent memo.new }
+    {
+        let lowest = self.lowest_failing(memo, role, demand);
+        match lowest.failing {
+            Some(e) => Verdict::Fails(demand.blame_at(e.from, e.to)),
+            None => unresolved_or_holds(lowest.noted),
+        }
     }
-    Verdict::Holds
 }

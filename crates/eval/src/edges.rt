@@ -1,13 +1,13 @@
 // The lent list of edges: only edge_at reads a row of it, and only edge_by turns an edge.
-ghost use Rattle.std.specs.Prelude.{◌≡◌, [], ◌*◌, ◌<◌, ◌≤◌, length, get_or};
-ghost use Rattle.deck.specs.Content.{IsAccepted, deck_of};
+ghost use Rattle.std.specs.Prelude.{◌≡◌, [], ◌*◌, ◌<◌, length, get_or};
+ghost use Rattle.deck.specs.Content.{deck_of};
 ghost use Rattle.deck.specs.Deck.{role_count, role_of};
-ghost use Rattle.eval.specs.Edges.{edge_of, edges_of, goes, leaves, linked, linked_by, turned, under};
-ghost use Rattle.eval.specs.Index.{Indexed};
+ghost use Rattle.eval.specs.Edges.{edge_of, goes, leaves, linked, linked_by, turned, under};
+ghost use Rattle.eval.specs.InLent.{deck_in, edges_in};
 
-use crate::index::{jump, walk_of};
+use crate::lent::Judging;
+use deck::Deck;
 use deck::numbers::{Element, RoleId, RoleWord};
-use deck::{roles, rows};
 
 #[derive(Clone, Copy, PartialEq, Eq)]
 pub struct Edge {
@@ -16,16 +16,21 @@ pub struct Edge {
     pub to: Element,
 }
 
+pub fn read_edge(row: &[u32; 3]) -> Edge
+    ensures { result ≡ edge_of row.now }
+{
+    Edge {
+        role: RoleId(row[0]),
+        from: Element(row[1]),
+        to: Element(row[2]),
+    }
+}
+
 pub fn edge_at(edges: &[[u32; 3]], i: usize) -> Edge
     requires { i < length edges.now }
     ensures { result ≡ edge_of (get_or edges.now i []) }
 {
-    let e = edges[i];
-    Edge {
-        role: RoleId(e[0]),
-        from: Element(e[1]),
-        to: Element(e[2]),
-    }
+    read_edge(&edges[i])
 }
 
 // An edge as a role word sees it: turned if the word is inverse.
@@ -34,109 +39,62 @@ pub fn edge_by(edges: &[[u32; 3]], i: usize, word: RoleWord) -> Edge
     ensures { result ≡ turned (role_of word.0) (edge_of (get_or edges.now i [])) }
 {
     let e = edge_at(edges, i);
-    let role = e.role;
-    let from = e.from;
-    let to = e.to;
     if word.is_inverse() {
         return Edge {
-            role: role,
-            from: to,
-            to: from,
+            role: e.role,
+            from: e.to,
+            to: e.from,
         };
     }
     e
 }
 
 // Is the edge's role a sub-role of r?
-pub fn is_sub_role(deck: &[u8], e: Edge, r: RoleId) -> bool
-    requires accepted { IsAccepted deck.now }
-    requires r_bound { r.0 < role_count (deck_of deck.now) }
-    ensures { result ≡ under (deck_of deck.now) r.0 e }
+pub fn is_sub_role(deck: &Deck<'_>, e: Edge, r: RoleId) -> bool
+    requires r_bound { r.0 < role_count (deck_of deck.now.bytes.now) }
+    ensures { result ≡ under (deck_of deck.now.bytes.now) r.0 e }
 {
-    rows::row_has(deck, roles::sub_roles(deck, r), e.role.0)
+    deck.row_has(deck.sub_roles(r), e.role.0)
 }
 
 // Does the edge leave x by r?
-pub fn leaves_by(deck: &[u8], e: Edge, r: RoleId, x: Element) -> bool
-    requires accepted { IsAccepted deck.now }
-    requires r_bound { r.0 < role_count (deck_of deck.now) }
-    ensures { result ≡ leaves (deck_of deck.now) r.0 x.0 e }
+pub fn leaves_by(deck: &Deck<'_>, e: Edge, r: RoleId, x: Element) -> bool
+    requires r_bound { r.0 < role_count (deck_of deck.now.bytes.now) }
+    ensures { result ≡ leaves (deck_of deck.now.bytes.now) r.0 x.0 e }
 {
-    if e.from.0 == x.0 {
-        return is_sub_role(deck, e, r);
-    }
-    false
+    e.from == x && is_sub_role(deck, e, r)
 }
 
 // Does the edge go from x to y by r?
-fn goes_by(deck: &[u8], e: Edge, r: RoleId, x: Element, y: Element) -> bool
-    requires accepted { IsAccepted deck.now }
-    requires r_bound { r.0 < role_count (deck_of deck.now) }
-    ensures { result ≡ goes (deck_of deck.now) r.0 x.0 y.0 e }
+fn goes_by(deck: &Deck<'_>, e: Edge, r: RoleId, x: Element, y: Element) -> bool
+    requires r_bound { r.0 < role_count (deck_of deck.now.bytes.now) }
+    ensures { result ≡ goes (deck_of deck.now.bytes.now) r.0 x.0 y.0 e }
 {
-    if e.from.0 == x.0 {
-        if e.to.0 == y.0 {
-            return is_sub_role(deck, e, r);
-        }
-    }
-    false
+    e.from == x && e.to == y && is_sub_role(deck, e, r)
 }
 
-// Is (x, y) a pair of the role word, by the first `count` edges?
-pub fn has_pair(
-    deck: &[u8],
-    edges: &[[u32; 3]],
-    count: u32,
-    index: &[u32],
-    elements: u32,
-    word: RoleWord,
-    x: Element,
-    y: Element,
-) -> bool
-    requires accepted { IsAccepted deck.now }
-    requires word_bound { word.0 < 2 * role_count (deck_of deck.now) }
-    requires count_in_bounds { count ≤ length edges.now }
-    requires indexed { Indexed edges.now elements count index.now }
-    requires x_lt_elements { x.0 < elements }
-    requires y_lt_elements { y.0 < elements }
-    ensures { result ≡ linked_by (deck_of deck.now) (edges_of edges.now count) (role_of word.0) x.0 y.0 }
-{
-    let r = word.role_id();
-    if word.is_inverse() {
-        return has_edge(deck, edges, count, index, elements, r, y, x);
+impl Judging<'_> {
+    // Is (x, y) a pair of the role word?
+    pub fn has_pair(&self, word: RoleWord, x: Element, y: Element) -> bool
+        requires word_bound { word.0 < 2 * role_count (deck_in self.now.lent) }
+        requires x_lt_elements { x.0 < self.now.lent.shape.elements }
+        requires y_lt_elements { y.0 < self.now.lent.shape.elements }
+        ensures { result ≡ linked_by (deck_in self.now.lent) (edges_in self.now.lent) (role_of word.0) x.0 y.0 }
+    {
+        let r = word.role_id();
+        if word.is_inverse() {
+            return self.has_edge(r, y, x);
+        }
+        self.has_edge(r, x, y)
     }
-    has_edge(deck, edges, count, index, elements, r, x, y)
-}
 
-// Does an edge of r go from x to y, among the first `count`?
-pub fn has_edge(
-    deck: &[u8],
-    edges: &[[u32; 3]],
-    count: u32,
-    index: &[u32],
-    elements: u32,
-    r: RoleId,
-    x: Element,
-    y: Element,
-) -> bool
-    requires accepted { IsAccepted deck.now }
-    requires r_bound { r.0 < role_count (deck_of deck.now) }
-    requires count_in_bounds { count ≤ length edges.now }
-    requires indexed { Indexed edges.now elements count index.now }
-    requires x_lt_elements { x.0 < elements }
-    ensures { result ≡ linked (deck_of deck.now) (edges_of edges.now count) r.0 x.0 y.0 }
-{
-    let mut w = walk_of(index, x);
-    while w.at < count as usize {
-        let e = edge_at(edges, w.at);
-        if e.from.0 != x.0 {
-            w = jump(edges, count, index, elements, x, w);
-            continue;
-        }
-        if goes_by(deck, e, r, x, y) {
-            return true;
-        }
-        w.at += 1;
+    // Does an edge of r go from x to y?
+    pub fn has_edge(&self, r: RoleId, x: Element, y: Element) -> bool
+        requires r_bound { r.0 < role_count (deck_in self.now.lent) }
+        requires x_lt_elements { x.0 < self.now.lent.shape.elements }
+        ensures { result ≡ linked (deck_in self.now.lent) (edges_in self.now.lent) r.0 x.0 y.0 }
+    {
+        self.leaving(x)
+            .any(|e| goes_by(&self.lent.deck, e, r, x, y))
     }
-    false
 }

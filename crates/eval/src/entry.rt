@@ -4,15 +4,14 @@ ghost use Rattle.deck.specs.Content.{deck_of};
 ghost use Rattle.deck.specs.Deck.{axiom_at};
 ghost use Rattle.eval.specs.declared.judgement.Judgement.{Judgement};
 ghost use Rattle.eval.specs.declared.verdict.Verdict.{Verdict};
-ghost use Rattle.eval.specs.Entry.{shape_of, lent_answer, concept_answer, axiom_answer};
+ghost use Rattle.eval.specs.Entry.{shape_of, concept_answer, axiom_answer};
 ghost use Rattle.eval.specs.Judge.{Right, truth};
 ghost use Rattle.eval.specs.Justified.{Justified};
 ghost use Rattle.eval.specs.Lent.{structure_of};
 ghost use Rattle.eval.specs.Truth.{Choice, ext, plain};
 
-use crate::equip::{judge_axiom, judge_concept};
-use crate::foreign::structure_fits;
 use crate::judgement::Judgement;
+use crate::lent::Lent;
 use crate::shape::Shape;
 use crate::verdict::Verdict;
 use deck::axioms::axiom_count;
@@ -20,17 +19,6 @@ use deck::check_deck;
 use deck::concepts::concept_count;
 use deck::numbers::{ConceptId, Element};
 use deck::refusal::Refusal;
-
-// Are the deck and the lent structure in order? If not, the first refusal.
-fn lent_answer(deck: &[u8], labels: &[u64], edges: &[[u32; 3]], shape: Shape) -> Result<(), Refusal>
-    ensures { result ≡ lent_answer deck.now labels.now edges.now shape }
-{
-    check_deck(deck)?;
-    if !structure_fits(deck, labels, edges, shape) {
-        return Err(Refusal::ForeignStructure);
-    }
-    Ok(())
-}
 
 // Is the element in the concept, in the structure of the first `elements` labels and the first `edge_count` edges?
 pub fn eval_concept_in(
@@ -50,14 +38,14 @@ pub fn eval_concept_in(
         elements: elements,
         edges: edge_count,
     };
-    lent_answer(deck, labels, edges, shape)?;
-    if concept.0 >= concept_count(deck) {
+    let lent = Lent::read(deck, labels, edges, shape)?;
+    if concept.0 >= lent.deck.concept_count() {
         return Err(Refusal::AbsentIndex);
     }
     if element.0 >= elements {
         return Err(Refusal::AbsentIndex);
     }
-    Ok(judge_concept(deck, labels, edges, shape, concept, element))
+    Ok(lent.judge_concept(concept, element))
 }
 
 // Is the axiom satisfied in that structure?
@@ -76,9 +64,9 @@ pub fn check_axiom_in(
         elements: elements,
         edges: edge_count,
     };
-    lent_answer(deck, labels, edges, shape)?;
-    if axiom >= axiom_count(deck) {
+    let lent = Lent::read(deck, labels, edges, shape)?;
+    if axiom >= lent.deck.axiom_count() {
         return Err(Refusal::AbsentIndex);
     }
-    Ok(judge_axiom(deck, labels, edges, shape, axiom))
+    Ok(lent.judge_axiom(axiom))
 }

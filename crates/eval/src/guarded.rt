@@ -1,48 +1,35 @@
 // Symmetric and inverse roles, which are to have no edges.
-ghost use Rattle.std.specs.Prelude.{◌≡◌, map, ◌<◌, ◌≤◌, length};
-ghost use Rattle.deck.specs.Content.{IsAccepted, deck_of};
+ghost use Rattle.std.specs.Prelude.{◌≡◌, map, ◌<◌};
 ghost use Rattle.deck.specs.Deck.{role_count};
-ghost use Rattle.eval.specs.Edges.{edges_of, under};
-ghost use Rattle.eval.specs.Lent.{Fits, structure_of};
+ghost use Rattle.eval.specs.Edges.{under};
+ghost use Rattle.eval.specs.InLent.{deck_in, edges_in, structure};
 ghost use Rattle.eval.specs.Lists.{any};
 ghost use Rattle.eval.specs.Verdict.{guarded};
 
-use crate::edges::{edge_at, is_sub_role};
-use crate::shape::Shape;
+use crate::edges::{is_sub_role, read_edge};
+use crate::lent::Lent;
 use crate::verdict::Verdict;
 use deck::numbers::RoleId;
 
-// Is one of the first `count` edges one of r?
-fn has_any(deck: &[u8], edges: &[[u32; 3]], count: u32, r: RoleId) -> bool
-    requires accepted { IsAccepted deck.now }
-    requires r_bound { r.0 < role_count (deck_of deck.now) }
-    requires count_in_bounds { count ≤ length edges.now }
-    ensures { result ≡ any (map (under (deck_of deck.now) r.0) (edges_of edges.now count)) }
-{
-    let mut i = 0;
-    while i < count as usize {
-        if is_sub_role(deck, edge_at(edges, i), r) {
-            return true;
-        }
-        i += 1;
+impl Lent<'_> {
+    // Is one of the edges one of r?
+    fn has_any(&self, r: RoleId) -> bool
+        requires { r.0 < role_count (deck_in self.now) }
+        ensures { result ≡ any (map (under (deck_in self.now) r.0) (edges_in self.now)) }
+    {
+        self.edges[..self.shape.edges as usize]
+            .iter()
+            .any(|row| is_sub_role(&self.deck, read_edge(row), r))
     }
-    false
-}
 
-// r has no edges.
-pub fn check_guarded(
-    deck: &[u8],
-    labels: &[u64],
-    edges: &[[u32; 3]],
-    shape: Shape,
-    r: RoleId,
-) -> Verdict
-    requires fits { Fits deck.now labels.now edges.now shape }
-    requires r_bound { r.0 < role_count (deck_of deck.now) }
-    ensures { result ≡ guarded (deck_of deck.now) (structure_of (deck_of deck.now) labels.now edges.now shape) r.0 }
-{
-    if has_any(deck, edges, shape.edges, r) {
-        return Verdict::GuardedRoleHasEdges(r);
+    // r has no edges.
+    pub fn check_guarded(&self, r: RoleId) -> Verdict
+        requires { r.0 < role_count (deck_in self.now) }
+        ensures { result ≡ guarded (deck_in self.now) (structure self.now) r.0 }
+    {
+        if self.has_any(r) {
+            return Verdict::GuardedRoleHasEdges(r);
+        }
+        Verdict::Holds
     }
-    Verdict::Holds
 }

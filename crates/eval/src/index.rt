@@ -14,6 +14,17 @@ pub struct Walk {
     pub run: u32,
 }
 
+// The first `count` edges, with an index of them.
+#[derive(Clone, Copy)]
+pub struct EdgeIndex<'a> {
+    pub edges: &'a [[u32; 3]],
+    pub count: u32,
+    pub index: &'a [u32],
+    pub elements: u32,
+    pub ghost within: { count ≤ length edges.now },
+    pub ghost indexed: { Indexed edges.now elements count index.now },
+}
+
 // How many edges are not in the index, at the front, and how many runs it has.
 #[derive(Clone, Copy)]
 struct Filled {
@@ -25,10 +36,7 @@ struct Filled {
 fn word_at(index: &[u32], i: usize) -> u32
     ensures { result ≡ get_or index.now i 0 }
 {
-    if i < index.len() {
-        return index[i];
-    }
-    0
+    index.get(i).copied().unwrap_or(0)
 }
 
 // Where run m starts; for 0 where the covered edges end.
@@ -51,66 +59,44 @@ pub fn walk_of(index: &[u32], x: Element) -> Walk
     }
 }
 
-// The run to come after s, where `run` starts: the next of x, if the edge at s leaves x.
-fn run_after(
-    edges: &[[u32; 3]],
-    count: u32,
-    index: &[u32],
-    elements: u32,
-    x: Element,
-    run: u32,
-    s: usize,
-) -> u32
-    requires count_in_bounds { count ≤ length edges.now }
-    requires indexed { Indexed edges.now elements count index.now }
-    requires run_bound { run ≤ used index.now }
-    requires s_value { s ≡ stop_of elements index.now run }
-    ensures { Ahead edges.now elements index.now x.0 s result }
-{
-    if run != 0 {
-        let e = edge_at(edges, s);
-        if e.from.0 == x.0 {
-            return word_at(index, 2 + elements as usize + 2 * (run as usize));
+impl EdgeIndex<'_> {
+    // The run to come after s, where `run` starts: the next of x, if the edge at s leaves x.
+    fn run_after(&self, x: Element, run: u32, s: usize) -> u32
+        requires run_bound { run ≤ used self.now.index.now }
+        requires s_value { s ≡ stop_of self.now.elements self.now.index.now run }
+        ensures { Ahead self.now.edges.now self.now.elements self.now.index.now x.0 s result }
+    {
+        if run != 0 {
+            if edge_at(self.edges, s).from == x {
+                return word_at(self.index, 2 + self.elements as usize + 2 * (run as usize));
+            }
         }
+        run
     }
-    run
+
+    // From an edge that does not leave x to the next that may.
+    pub fn jump(&self, x: Element, w: Walk) -> Walk
+        requires at_lt_count { w.at < self.now.count }
+        requires fact { from_at self.now.edges.now w.at ≡ x.0 → ⊥ }
+        requires ahead { Ahead self.now.edges.now self.now.elements self.now.index.now x.0 w.at w.run }
+        ensures { Jumped self.now.edges.now self.now.elements self.now.count self.now.index.now x.0 w.at result }
+    {
+        if w.at < word_at(self.index, 0) as usize {
+            return Walk {
+                at: w.at + 1,
+                run: w.run,
+            };
+        }
+        let s = stop_of(self.index, self.elements, w.run) as usize;
+        let run = self.run_after(x, w.run, s);
+        if s <= w.at {
+            return Walk { at: w.at + 1, run };
+        }
+        Walk { at: s, run }
+    }
 }
 
-// From an edge that does not leave x to the next that may.
-pub fn jump(
-    edges: &[[u32; 3]],
-    count: u32,
-    index: &[u32],
-    elements: u32,
-    x: Element,
-    w: Walk,
-) -> Walk
-    requires count_in_bounds { count ≤ length edges.now }
-    requires indexed { Indexed edges.now elements count index.now }
-    requires at_lt_count { w.at < count }
-    requires fact { from_at edges.now w.at ≡ x.0 → ⊥ }
-    requires ahead { Ahead edges.now elements index.now x.0 w.at w.run }
-    ensures { Jumped edges.now elements count index.now x.0 w.at result }
-{
-    let at = w.at;
-    let run = w.run;
-    if at < word_at(index, 0) as usize {
-        return Walk {
-            at: at + 1,
-            run: run,
-        };
-    }
-    let s = stop_of(index, elements, run) as usize;
-    let next = run_after(edges, count, index, elements, x, run, s);
-    if s <= at {
-        return Walk {
-            at: at + 1,
-            run: next,
-        };
-    }
-    Walk { at: s, run: next }
-}
-
+// While an index is made, what changes in it is passed as it is: a struct that lends it would be no plainer.
 fn set_word(index: &mut [u32], i: usize, w: u32)
     requires { i < length index.old }
     ensures { index.new ≡ set index.old i w }
@@ -123,11 +109,7 @@ fn clear(index: &mut [u32], n: usize)
     requires { n ≤ length index.old }
     ensures { (length index.new ≡ length index.old) × ((k : ℕ) → k < n → get_or index.new k 0 ≡ 0) }
 {
-    let mut i = 0;
-    while i < n {
-        index[i] = 0;
-        i += 1;
-    }
+    index[..n].fill(0);
 }
 
 // Does run h start just after edge i, and leave the same element?
@@ -135,16 +117,10 @@ fn follows(edges: &[[u32; 3]], index: &[u32], elements: u32, h: u32, i: usize) -
     requires { i < length edges.now }
     ensures { result ≡ true → Follows edges.now elements index.now h i }
 {
-    if h == 0 {
-        return false;
-    }
-    if stop_of(index, elements, h) as usize != i + 1 {
-        return false;
-    }
-    if edges.len() <= i + 1 {
-        return false;
-    }
-    edge_at(edges, i + 1).from.0 == edge_at(edges, i).from.0
+    h != 0
+        && stop_of(index, elements, h) as usize == i + 1
+        && i + 1 < edges.len()
+        && edge_at(edges, i + 1).from == edge_at(edges, i).from
 }
 
 // Run m of x, at the front of the others: it starts at edge i, and run h comes next.
@@ -158,8 +134,15 @@ fn add_run(index: &mut [u32], elements: u32, m: u32, x: Element, i: u32, h: u32)
     set_word(index, 3 + x.0 as usize, m);
 }
 
-// Edge i comes in: at the front of the run after it, or as a run of its own. The number of runs; 0 without room for one.
-fn enter(edges: &[[u32; 3]], count: u32, index: &mut [u32], elements: u32, i: u32, runs: u32) -> u32
+// Edge i comes in: at the front of the run after it, or as a run of its own. The number of runs, if there is room.
+fn enter(
+    edges: &[[u32; 3]],
+    count: u32,
+    index: &mut [u32],
+    elements: u32,
+    i: u32,
+    runs: u32,
+) -> Option<u32>
     requires count_in_bounds { count ≤ length edges.now }
     requires i_lt_count { i < count }
     requires i_bound { from_at edges.now i < elements }
@@ -171,13 +154,13 @@ fn enter(edges: &[[u32; 3]], count: u32, index: &mut [u32], elements: u32, i: u3
     let h = word_at(index, 3 + x.0 as usize);
     if follows(edges, index, elements, h, i as usize) {
         set_word(index, 1 + elements as usize + 2 * (h as usize), i);
-        return runs;
+        return Some(runs);
     }
     if index.len() < 5 + elements as usize + 2 * (runs as usize) {
-        return 0;
+        return None;
     }
     add_run(index, elements, runs + 1, x, i, h);
-    runs + 1
+    Some(runs + 1)
 }
 
 // Edges come in from the last one down, while there is room.
@@ -187,23 +170,14 @@ fn fill(edges: &[[u32; 3]], count: u32, index: &mut [u32], elements: u32) -> Fil
     requires built { Built edges.now elements count count 0 index.old }
     ensures { (length index.new ≡ length index.old) × Built edges.now elements count result.low result.used index.new }
 {
-    let mut low = count;
     let mut used = 0;
-    while 0 < low {
-        let runs = enter(edges, count, index, elements, low - 1, used);
-        if runs == 0 {
-            return Filled {
-                low: low,
-                used: used,
-            };
+    for i in (0..count).rev() {
+        match enter(edges, count, index, elements, i, used) {
+            Some(runs) => used = runs,
+            None => return Filled { low: i + 1, used },
         }
-        low -= 1;
-        used = runs;
     }
-    Filled {
-        low: low,
-        used: used,
-    }
+    Filled { low: 0, used }
 }
 
 // The index of the first `count` edges. Without room for all runs it leaves out the oldest edges, and covers none where

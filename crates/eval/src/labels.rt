@@ -1,18 +1,17 @@
 // The classes of an element.
-ghost use Rattle.std.specs.Prelude.{◌≡◌, ◌+◌, ◌*◌, ◌/◌, ◌<◌, ◌≤◌, length};
-ghost use Rattle.deck.specs.Content.{IsAccepted, deck_of};
+ghost use Rattle.std.specs.Prelude.{◌≡◌, ◌+◌, ◌*◌, ◌/◌, ◌<◌, ◌≤◌, length, get_or};
+ghost use Rattle.deck.specs.Content.{deck_of};
 ghost use Rattle.deck.specs.Deck.{class_count};
 ghost use Rattle.eval.specs.Lent.{bit, label_width, member_in};
 
-use deck::classes;
+use deck::Deck;
 use deck::numbers::{ClassId, Element};
 
 // The words of a label.
-pub fn label_width(deck: &[u8]) -> usize
-    requires { IsAccepted deck.now }
-    ensures { (result ≡ label_width (deck_of deck.now)) × (result ≤ 64) }
+pub fn label_width(deck: &Deck<'_>) -> usize
+    ensures { (result ≡ label_width (deck_of deck.now.bytes.now)) × (result ≤ 64) }
 {
-    (classes::class_count(deck) as usize + 63) / 64
+    (deck.class_count() as usize + 63) / 64
 }
 
 // Bit b of a word.
@@ -31,19 +30,37 @@ pub fn cell(e: usize, n: usize, w: usize, j: usize, room: usize) -> usize
     e * w + j
 }
 
-pub fn has_class(deck: &[u8], labels: &[u64], elements: u32, e: Element, class: ClassId) -> bool
-    requires accepted { IsAccepted deck.now }
-    requires deck_in_bounds { elements * label_width (deck_of deck.now) ≤ length labels.now }
-    requires e_lt_elements { e.0 < elements }
-    requires class_bound { class.0 < class_count (deck_of deck.now) }
-    ensures { result ≡ member_in labels.now (label_width (deck_of deck.now)) e.0 class.0 }
-{
-    let i = cell(
-        e.0 as usize,
-        elements as usize,
-        label_width(deck),
-        class.0 as usize / 64,
-        labels.len(),
-    );
-    bit_of(labels[i], (class.0 % 64) as u64)
+// The labels of so many elements, each a bit for each class of the deck.
+#[derive(Clone, Copy)]
+pub struct Labels<'a> {
+    pub deck: Deck<'a>,
+    pub words: &'a [u64],
+    pub elements: u32,
+    pub ghost room: { elements * label_width (deck_of deck.bytes.now) ≤ length words.now },
+}
+
+impl Labels<'_> {
+    // Word j of e's label.
+    pub fn word(&self, e: Element, j: usize) -> u64
+        requires e_lt_elements { e.0 < self.now.elements }
+        requires j_lt_width { j < label_width (deck_of self.now.deck.bytes.now) }
+        ensures { result ≡ get_or self.now.words.now (e.0 * label_width (deck_of self.now.deck.bytes.now) + j) 0 }
+    {
+        let width = label_width(&self.deck);
+        self.words[cell(
+            e.0 as usize,
+            self.elements as usize,
+            width,
+            j,
+            self.words.len(),
+        )]
+    }
+
+    pub fn has_class(&self, e: Element, class: ClassId) -> bool
+        requires e_lt_elements { e.0 < self.now.elements }
+        requires class_bound { class.0 < class_count (deck_of self.now.deck.bytes.now) }
+        ensures { result ≡ member_in self.now.words.now (label_width (deck_of self.now.deck.bytes.now)) e.0 class.0 }
+    {
+        bit_of(self.word(e, class.0 as usize / 64), (class.0 % 64) as u64)
+    }
 }

@@ -2,6 +2,7 @@
 #![tactic(auto)]
 
 pub mod axioms;
+pub mod bytes;
 mod chains;
 mod classes;
 mod concepts;
@@ -15,6 +16,8 @@ mod guarded;
 pub mod index;
 pub mod judgement;
 pub mod labels;
+mod leaving;
+pub mod lent;
 mod lowest;
 mod memo;
 mod roles;

@@ -6,54 +6,38 @@ ghost use Rattle.eval.specs.Memo.{code_of, key_of, recalled, recalled_as, stored
 use crate::judgement::Judgement;
 use deck::numbers::{ConceptId, Element};
 
-// What the table has for a concept at an element.
-#[derive(Clone, Copy)]
-pub enum Recalled {
-    Known(Judgement),
-    Unknown,
-}
-
 fn key(elements: u32, concept: ConceptId, e: Element) -> u64
     ensures { result ≡ key_of elements concept.0 e.0 }
 {
     concept.0 as u64 * elements as u64 + e.0 as u64
 }
 
-// The code of a judgement, 0 where there is none.
+// The code of a judgement, 0 where there is none: a code, and not an Option, as it is packed in the low four bits of a word.
 fn code_of(j: Judgement) -> u32
     ensures { result ≡ code_of j }
 {
     match j {
         Judgement::False => 1,
         Judgement::True => 2,
-        Judgement::Unresolved(tag) => {
-            if tag < 2 {
-                return 0;
-            }
-            if 14 < tag {
-                return 0;
-            }
-            tag + 1
-        }
+        Judgement::Unresolved(tag) => match tag {
+            2..=14 => tag + 1,
+            _ => 0,
+        },
     }
 }
 
-fn recalled_as(code: u32) -> Recalled
+fn recalled_as(code: u32) -> Option<Judgement>
     ensures { result ≡ recalled_as code }
 {
-    if code == 0 {
-        return Recalled::Unknown;
+    match code {
+        0 => None,
+        1 => Some(Judgement::False),
+        2 => Some(Judgement::True),
+        _ => Some(Judgement::Unresolved(code - 1)),
     }
-    if code == 1 {
-        return Recalled::Known(Judgement::False);
-    }
-    if code == 2 {
-        return Recalled::Known(Judgement::True);
-    }
-    Recalled::Known(Judgement::Unresolved(code - 1))
 }
 
-pub fn recall(memo: &[u16], elements: u32, concept: ConceptId, e: Element) -> Recalled
+pub fn recall(memo: &[u16], elements: u32, concept: ConceptId, e: Element) -> Option<Judgement>
     requires { 0 < length memo.now }
     ensures { result ≡ recalled memo.now (key_of elements concept.0 e.0) }
 {
@@ -62,7 +46,7 @@ pub fn recall(memo: &[u16], elements: u32, concept: ConceptId, e: Element) -> Re
     let at = (k % room) as usize;
     let w = memo[at];
     if (w / 16) as u64 != k / room {
-        return Recalled::Unknown;
+        return None;
     }
     recalled_as((w % 16) as u32)
 }

@@ -1,24 +1,24 @@
 // What an And or a Some has come to after the operands or the successors judged so far.
 ghost use Rattle.std.specs.Prelude.{◌≡◌};
-ghost use Rattle.eval.specs.Standing.{fresh, and_next, some_next, and_close, some_close};
+ghost use Rattle.eval.specs.Standing.{fresh, and_next, some_next, close, and_close, some_close};
 
 use crate::judgement::Judgement;
 
+// Is it decided, and if not, the tag of the last construct that was left open?
 #[derive(Clone, Copy)]
 pub struct Standing {
     pub ended: bool,
-    pub noted: bool,
-    pub tag: u32,
+    pub noted: Option<u32>,
 }
 
+// `and` and `some` stay two functions: a match on what ends each says the rule, and one of both would need it as a parameter.
 impl Standing {
     pub fn new() -> Standing
         ensures { result ≡ fresh }
     {
         Standing {
             ended: false,
-            noted: false,
-            tag: 0,
+            noted: None,
         }
     }
 
@@ -30,13 +30,11 @@ impl Standing {
             Judgement::False => Standing {
                 ended: true,
                 noted: self.noted,
-                tag: self.tag,
             },
             Judgement::True => self,
             Judgement::Unresolved(last) => Standing {
                 ended: self.ended,
-                noted: true,
-                tag: last,
+                noted: Some(last),
             },
         }
     }
@@ -49,14 +47,25 @@ impl Standing {
             Judgement::True => Standing {
                 ended: true,
                 noted: self.noted,
-                tag: self.tag,
             },
             Judgement::False => self,
             Judgement::Unresolved(tag) => Standing {
                 ended: self.ended,
-                noted: true,
-                tag: tag,
+                noted: Some(tag),
             },
+        }
+    }
+
+    // What it comes to, where something ended it and where nothing did.
+    fn close(self, ended: Judgement, passed: Judgement) -> Judgement
+        ensures { result ≡ close self ended passed }
+    {
+        if self.ended {
+            return ended;
+        }
+        match self.noted {
+            Some(tag) => Judgement::Unresolved(tag),
+            None => passed,
         }
     }
 
@@ -64,29 +73,13 @@ impl Standing {
     pub fn close_and(self) -> Judgement
         ensures { result ≡ and_close self }
     {
-        let ended = self.ended;
-        let noted = self.noted;
-        if ended {
-            return Judgement::False;
-        }
-        if noted {
-            return Judgement::Unresolved(self.tag);
-        }
-        Judgement::True
+        self.close(Judgement::False, Judgement::True)
     }
 
     // What a Some comes to.
     pub fn close_some(self) -> Judgement
         ensures { result ≡ some_close self }
     {
-        let ended = self.ended;
-        let noted = self.noted;
-        if ended {
-            return Judgement::True;
-        }
-        if noted {
-            return Judgement::Unresolved(self.tag);
-        }
-        Judgement::False
+        self.close(Judgement::True, Judgement::False)
     }
 }

@@ -1,8 +1,7 @@
 // What checking an axiom comes to.
 ghost use Rattle.std.specs.Prelude.{◌≡◌};
-ghost use Rattle.eval.specs.Verdict.{words_of, fail_words, is_holds, verdict_of};
+ghost use Rattle.eval.specs.Verdict.{words_of, fail_words, is_holds, open_or_holds};
 
-use crate::standing::Standing;
 use deck::numbers::{Element, RoleId};
 
 #[derive(Clone, Copy)]
@@ -46,25 +45,17 @@ pub fn verdict_words(verdict: Verdict) -> [u32; 4]
 }
 
 // Where no place failed: open if a construct was noted, else it holds.
-pub fn unresolved_or_holds(standing: Standing) -> Verdict
-    ensures { result ≡ verdict_of standing }
+pub fn unresolved_or_holds(noted: Option<u32>) -> Verdict
+    ensures { result ≡ open_or_holds noted }
 {
-    let noted = standing.noted;
-    if noted {
-        Verdict::UnhandledConcept(standing.tag)
-    } else {
-        Verdict::Holds
+    match noted {
+        Some(tag) => Verdict::UnhandledConcept(tag),
+        None => Verdict::Holds,
     }
 }
 
 pub fn holds(verdict: Verdict) -> bool
     ensures { result ≡ is_holds verdict }
 {
-    match verdict {
-        Verdict::Holds => true,
-        Verdict::Fails(_) => false,
-        Verdict::UnhandledAxiom(_, _) => false,
-        Verdict::UnhandledConcept(_) => false,
-        Verdict::GuardedRoleHasEdges(_) => false,
-    }
+    matches!(verdict, Verdict::Holds)
 }

@@ -1,8 +1,16 @@
 // The judgements of the members of a list at one element, counted.
 ghost use Rattle.std.specs.Prelude.{◌≡◌, ◌+◌, ◌<◌};
+ghost use Rattle.eval.specs.Relation.{outcome};
 ghost use Rattle.eval.specs.Verdict.{no_votes, vote, agreement, disjointness};
 
 use crate::judgement::Judgement;
+
+// What an axiom says of the members of a list.
+#[derive(Clone, Copy)]
+pub enum Relation {
+    Equivalent,
+    Disjoint,
+}
 
 // How many are true, false and unresolved, and the last unresolved tag.
 #[derive(Clone, Copy)]
@@ -30,30 +38,31 @@ impl Votes {
         requires { self.trues + self.falses + self.unresolved < 4294967295 }
         ensures { result ≡ vote self j }
     {
+        let mut votes = self;
         match j {
-            Judgement::True => Votes {
-                trues: self.trues + 1,
-                falses: self.falses,
-                unresolved: self.unresolved,
-                tag: self.tag,
-            },
-            Judgement::False => Votes {
-                trues: self.trues,
-                falses: self.falses + 1,
-                unresolved: self.unresolved,
-                tag: self.tag,
-            },
-            Judgement::Unresolved(tag) => Votes {
-                trues: self.trues,
-                falses: self.falses,
-                unresolved: self.unresolved + 1,
-                tag: tag,
-            },
+            Judgement::True => votes.trues += 1,
+            Judgement::False => votes.falses += 1,
+            Judgement::Unresolved(tag) => {
+                votes.unresolved += 1;
+                votes.tag = tag;
+            }
+        }
+        votes
+    }
+
+    // What the relation comes to.
+    pub fn outcome(self, relation: Relation) -> Judgement
+        requires { self.trues + self.unresolved < 4294967296 }
+        ensures { result ≡ outcome relation self }
+    {
+        match relation {
+            Relation::Equivalent => self.all_agree(),
+            Relation::Disjoint => self.at_most_one(),
         }
     }
 
     // Do all members agree? An unresolved one may disagree with any other.
-    pub fn all_agree(self) -> Judgement
+    fn all_agree(self) -> Judgement
         ensures { result ≡ agreement self }
     {
         let trues = self.trues;
@@ -69,7 +78,7 @@ impl Votes {
     }
 
     // Is at most one member true? An unresolved one may be.
-    pub fn at_most_one(self) -> Judgement
+    fn at_most_one(self) -> Judgement
         requires { self.trues + self.unresolved < 4294967296 }
         ensures { result ≡ disjointness self }
     {

@@ -12,8 +12,9 @@ ghost use Rattle.model.specs.Ends.{Ends, is_new};
 
 use atoms::labels::{after, clear_first, from_bit, insert_bit};
 use deck::numbers::{Element, RoleId};
-use eval::edges::{Edge, edge_at, is_sub_role};
-use eval::index::{jump, walk_of};
+use eval::bytes::{is_sub_role, jump};
+use eval::edges::{Edge, edge_at};
+use eval::index::walk_of;
 
 // The end of an edge, if the edge is of r.
 fn mark_end(deck: &[u8], e: Edge, r: RoleId, bits: &mut [u64])

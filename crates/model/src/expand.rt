@@ -28,8 +28,8 @@ use build::tally::{Step, Tally};
 use deck::classes::class_count;
 use deck::facts::{fact_at, fact_count};
 use deck::numbers::{ClassId, Element, RoleId};
+use eval::bytes::has_class;
 use eval::edges::Edge;
-use eval::labels::has_class;
 
 // The tally after one more reason.
 fn note(log: &mut [u32], t: Tally, reason: Reason) -> Tally

@@ -11,7 +11,8 @@ use atoms::labels::{after, from_bit, insert_bit};
 use deck::classes::class_count;
 use deck::facts::{fact_at, fact_count};
 use deck::numbers::Element;
-use eval::labels::{cell, label_width};
+use eval::bytes::label_width;
+use eval::labels::cell;
 
 // An entry of a table.
 pub fn entry(index: &[u32], at: usize) -> u32

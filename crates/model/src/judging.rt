@@ -14,8 +14,8 @@ ghost use Rattle.model.specs.Run.{verdicts_in, words_in};
 use crate::outcome::Outcome;
 use deck::axioms::{axiom_at, axiom_count};
 use deck::concepts::concept_count;
-use eval::axioms::check_axiom;
-use eval::equip::{equip, is_small};
+use eval::bytes::{check_axiom, equip};
+use eval::equip::is_small;
 use eval::shape::Shape;
 use eval::verdict::{Verdict, verdict_words};
 
@@ -216,8 +216,8 @@ fn judge_small(
     judge_over(deck, labels, edges, shape, &mut index, &mut memo, verdicts)
 }
 
-// The last call is never made, as there are at most 65,536 elements: as in eval's `concept_large`, this room has a frame of its
-// own.
+// The last call is never made, as there are at most 65,536 elements: a function that calls itself has a frame of its own, so
+// that its room is made only where it is needed.
 fn judge_large(
     deck: &[u8],
     labels: &[u64],

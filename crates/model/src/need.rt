@@ -10,7 +10,7 @@ use deck::axioms::axiom_count;
 use deck::check_deck;
 use deck::classes::class_count;
 use deck::refusal::Refusal;
-use eval::labels::label_width;
+use eval::bytes::label_width;
 
 fn bounds_fit(bounds: Bounds, last_phase: u32) -> bool
     ensures { result ≡ bounds_fit bounds last_phase }

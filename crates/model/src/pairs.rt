@@ -8,8 +8,9 @@ ghost use Rattle.eval.specs.Index.{Indexed};
 ghost use Rattle.model.specs.Pairs.{key_of, nearer_of, first, link_key, EndsFit, Near};
 
 use deck::numbers::{Element, RoleId};
-use eval::edges::{Edge, edge_at, is_sub_role};
-use eval::index::{jump, walk_of};
+use eval::bytes::{is_sub_role, jump};
+use eval::edges::{Edge, edge_at};
+use eval::index::walk_of;
 
 #[derive(Clone, Copy)]
 pub enum Found {

@@ -15,7 +15,7 @@ use build::intern::row_start;
 use build::prints::{chain, find_by, slot_of};
 use deck::facts::{fact_at, fact_count};
 use deck::numbers::{ClassId, RoleId};
-use eval::labels::label_width;
+use eval::bytes::label_width;
 
 // The labels of all elements by their slots; the table is empty at first.
 fn chain_labels(width: usize, labels: &[u64], elements: u32, heads: &mut [u32], links: &mut [u32])

@@ -21,7 +21,7 @@ use crate::phases::construct;
 use build::bounds::Bounds;
 use build::tally::Tally;
 use deck::refusal::Refusal;
-use eval::labels::label_width;
+use eval::bytes::label_width;
 use eval::shape::Shape;
 
 // The floor and the label in the making are the build's own; the rest is lent.

@@ -15,7 +15,8 @@ use deck::axioms::{axiom_at, axiom_count};
 use deck::concepts::{ConceptExpr, concept_at};
 use deck::numbers::{ConceptId, Element};
 use deck::rows::{Span, item};
-use eval::labels::{bit_of, label_width};
+use eval::bytes::label_width;
+use eval::labels::bit_of;
 
 // Does an operand go further, of a list all below `owner`?
 fn any_builds(deck: &[u8], owner: ConceptId, list: Span) -> bool

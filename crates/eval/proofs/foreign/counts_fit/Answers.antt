@@ -22,11 +22,11 @@ unfolding counts_fit
 returns-then-elements-label_width c =
     let a = c.args in
     let n = a.shape.elements in
-    simp (le-leb n 65536 c.if-elements-gt65536.false, lt-leb (n * label_width (deck_of a.deck.now)) (length a.labels.now) (rw c.label_width.ensures.0 at c.if-elements-label_width.true))
+    simp (le-leb n 65536 c.if-elements-gt65536.false, lt-leb (n * label_width (deck_of a.deck.now.bytes.now)) (length a.labels.now) (rw c.label_width.ensures.0 at c.if-elements-label_width.true))
 
 pub returns : goal.returns
 unfolding counts_fit
 returns c =
     let a = c.args in
     let n = a.shape.elements in
-    simp (le-leb n 65536 c.if-elements-gt65536.false, le-leb (n * label_width (deck_of a.deck.now)) (length a.labels.now) (rw c.label_width.ensures.0 at c.if-elements-label_width.false))
+    simp (le-leb n 65536 c.if-elements-gt65536.false, le-leb (n * label_width (deck_of a.deck.now.bytes.now)) (length a.labels.now) (rw c.label_width.ensures.0 at c.if-elements-label_width.false))

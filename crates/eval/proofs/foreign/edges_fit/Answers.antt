@@ -1,32 +1,21 @@
-use mathlib.Core.Path.{◌≡◌, sym, ◌∙◌}
-use native.Mathlib.Omega.{arith}
-use Rattle.deck.proofs.BelowLaws.{all_none, all_more, all-stops}
-use Rattle.eval.specs.Foreign.{edges_fit}
+use Prim.Native.Nat.{ℕ}
+use mathlib.Core.List.{List, []}
+use mathlib.Core.Path.{◌∙◌}
+use borrow.Author.Tests.{tests}
+use lib.ListN.{take}
+use Rattle.std.proofs.Common.{rules}
+use Rattle.std.proofs.lemmas.Iterator.{YieldsList-from_slice}
+use Rattle.std.proofs.lemmas.Iterator.Search.{all_from_yields_List}
+use Rattle.deck.specs.Content.{deck_of}
+use Rattle.eval.specs.Edges.{edge_of}
+use Rattle.eval.specs.Foreign.{edge_fits, edges_fit}
+use Rattle.eval.proofs.ChainLaws.{all-rows}
 use Rattle.eval.proofs.foreign.edges_fit.Goals as goal
-
-pub loop-i-init : goal.loop-i-init
-loop-i-init c =
-    (omega arith, all_none _)
-
-pub edge_at-requires : goal.edge_at-requires
-edge_at-requires c =
-    omega (arith, c.requires.accepted, c.requires.edges_in_bounds)
-
-pub edge_fits-requires : goal.edge_fits-requires
-edge_fits-requires c =
-    c.requires.accepted
-
-pub returns-then-not-edge_fits : goal.returns-then-not-edge_fits
-unfolding edges_fit
-returns-then-not-edge_fits c =
-    sym (all-stops _ c.loop-i.i _ c.loop-i-test.true (rw c.edge_at.ensures at (sym c.edge_fits.ensures ∙ c.if-not-edge_fits.true)))
-
-pub loop-i-preserved : goal.loop-i-preserved
-loop-i-preserved c =
-    (omega arith, all_more _ _ c.loop-i.invariant.1 (rw c.edge_at.ensures at (sym c.edge_fits.ensures ∙ c.if-not-edge_fits.false)))
 
 pub returns : goal.returns
 unfolding edges_fit
 returns c =
-    let e : c.loop-i.i ≡ c.args.shape.edges = omega arith in
-    sym (rw e at c.loop-i.invariant.1)
+    let a = c.args in
+    let p = λ (w : List ℕ). edge_fits (deck_of a.deck.now.bytes.now) a.shape.elements (edge_of w) in
+    let n = a.shape.edges in
+    all_from_yields_List p _ _ _ c.all.ensures.ran (YieldsList-from_slice (take n a.edges.now) cc) (λ x b q k. search (rules, tests)) ∙ all-rows p [] a.edges.now n c.requires.edges_in_bounds

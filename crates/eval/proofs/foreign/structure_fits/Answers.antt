@@ -9,19 +9,18 @@ returns-then-not-counts_fit c =
     simp (sym c.counts_fit.ensures ∙ c.if-not-counts_fit.true)
 
 pub edges_fit-requires : goal.edges_fit-requires
-edges_fit-requires c =
-    record { accepted = c.requires; edges_in_bounds = counts-edges _ _ _ _ (sym c.counts_fit.ensures ∙ c.if-not-counts_fit.false) }
+edges_fit-requires c = record { edges_in_bounds = counts-edges _ _ _ _ (sym c.counts_fit.ensures ∙ c.if-not-counts_fit.false) }
 
 pub returns-then-not-edges_fit : goal.returns-then-not-edges_fit
 unfolding structure_fits
 returns-then-not-edges_fit c =
     simp (sym c.counts_fit.ensures ∙ c.if-not-counts_fit.false, sym c.edges_fit.ensures ∙ c.if-not-edges_fit.true)
 
-pub labels_fit-requires : goal.labels_fit-requires
-labels_fit-requires c =
-    record { accepted = c.requires; deck_in_bounds = counts-room _ _ _ _ (sym c.counts_fit.ensures ∙ c.if-not-counts_fit.false) }
+pub invariant_of-labels : goal.invariant_of-labels
+invariant_of-labels c =
+    record { room = counts-room _ _ _ _ (sym c.counts_fit.ensures ∙ c.if-not-counts_fit.false) }
 
 pub returns : goal.returns
 unfolding structure_fits
 returns c =
-    simp (sym c.counts_fit.ensures ∙ c.if-not-counts_fit.false, sym c.edges_fit.ensures ∙ c.if-not-edges_fit.false) c.labels_fit.ensures
+    simp (sym c.counts_fit.ensures ∙ c.if-not-counts_fit.false, sym c.edges_fit.ensures ∙ c.if-not-edges_fit.false) c.fit.ensures

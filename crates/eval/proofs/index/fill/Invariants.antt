@@ -3,8 +3,5 @@ use lib.ListN.{length}
 use Rattle.eval.specs.Index.{Built}
 use Rattle.eval.proofs.index.fill.Given as goal
 
-abbrev pub invariant-loop-low : goal.invariant-loop-low
-invariant-loop-low l = (length l.index ≡ length l.initial.index) × Built l.edges l.elements l.count l.low l.used l.index
-
-abbrev pub decreases-loop-low : goal.decreases-loop-low
-decreases-loop-low l = l.low
+abbrev pub invariant-loop-i : goal.invariant-loop-i
+invariant-loop-i l = (length l.index ≡ length l.initial.index) × Built l.edges l.elements l.count l.i l.used l.index

@@ -1,0 +1,26 @@
+use mathlib.Core.Path.{sym, ◌∙◌}
+use mathlib.Core.List.{[], ◌∷◌}
+use Rattle.deck.specs.Deck.{role_of}
+use Rattle.eval.specs.Verdict.{verdict, within}
+use Rattle.eval.proofs.RoleLaws.{inverse-first, named-first, named-last}
+use Rattle.eval.proofs.lent.Judging.check_sub_property.Goals as goal
+
+pub returns-then-is_inverse : goal.returns-then-is_inverse
+unfolding verdict
+returns-then-is_inverse c =
+    let a = c.args in record { is = inverse-first 4 a.sub.0 (role_of a.sup.0 ∷ []) _ (sym c.is_inverse.ensures ∙ c.if-is_inverse.true); kept = c.requires.remembered }
+
+pub returns-then-is_inverse-2 : goal.returns-then-is_inverse-2
+unfolding verdict
+returns-then-is_inverse-2 c =
+    let a = c.args in record { is = inverse-first 4 a.sup.0 [] _ (sym c.is_inverse-2.ensures ∙ c.if-is_inverse-2.true) ∙ sym (named-first 4 a.sub.0 (role_of a.sup.0 ∷ []) _ (sym c.is_inverse.ensures ∙ c.if-is_inverse.false)); kept = c.requires.remembered }
+
+pub returns : goal.returns
+unfolding verdict within
+returns c =
+    let a = c.args in record {
+      is = c.check_pairs.ensures.is
+          ∙ named-last 4 a.sup.0 _ (sym c.is_inverse-2.ensures ∙ c.if-is_inverse-2.false)
+          ∙ sym (named-first 4 a.sub.0 (role_of a.sup.0 ∷ []) _ (sym c.is_inverse.ensures ∙ c.if-is_inverse.false));
+      kept = c.check_pairs.ensures.kept;
+    }

@@ -1,9 +1,0 @@
-use Rattle.eval.proofs.lowest.Lowest.next.Goals as goal
-
-pub returns-in-False : goal.returns-in-False
-returns-in-False c =
-    rw c.in-False.is c.fail.ensures
-
-pub returns-in-Unresolved : goal.returns-in-Unresolved
-returns-in-Unresolved c =
-    rw c.in-Unresolved.is
