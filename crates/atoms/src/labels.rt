@@ -14,12 +14,6 @@ fn with_bit(w: u64, b: u64) -> u64
     w | (1 << b)
 }
 
-fn or(a: u64, b: u64) -> u64
-    ensures { result ≡ bit_or a b }
-{
-    a | b
-}
-
 // The word from bit b on.
 pub fn from_bit(w: u64, b: u64) -> u64
     requires { b < 64 }
@@ -59,19 +53,14 @@ pub fn clear_first(words: &mut [u64], n: usize)
     requires { n ≤ length words.old }
     ensures { (k : ℕ) → k < n → get_or words.new k 0 ≡ 0 }
 {
-    let mut i = 0;
-    while i < n {
-        words[i] = 0;
-        i += 1;
-    }
+    words[..n].fill(0);
 }
 
 // The label without a class.
 pub fn clear(label: &mut [u64])
     ensures { label.new ≡ replicate (length label.old) 0 }
 {
-    let all = label.len();
-    clear_first(label, all);
+    label.fill(0);
 }
 
 // The label takes another one's classes in.
@@ -79,10 +68,8 @@ pub fn join(label: &mut [u64], other: &[u64])
     requires { length other.now ≡ length label.old }
     ensures { label.new ≡ joined label.old other.now }
 {
-    let mut i = 0;
-    while i < label.len() {
-        label[i] = or(label[i], other[i]);
-        i += 1;
+    for (i, word) in label.iter_mut().enumerate() {
+        *word |= other[i];
     }
 }
 

@@ -1,15 +1,16 @@
 // Questions of all that a concept's Ands lead to.
 ghost use Rattle.std.specs.Prelude.{◌≡◌, false, [], ◌∷◌, map, ◌<◌, drop, replicate};
-ghost use Rattle.deck.specs.Content.{IsAccepted, deck_of};
+ghost use Rattle.deck.specs.Accepted.{content};
 ghost use Rattle.deck.specs.Deck.{class_count, concept_count, concept_at};
 ghost use Rattle.deck.specs.Reads.{list_of, ListFits};
 ghost use Rattle.eval.specs.Lists.{every};
 ghost use Rattle.atoms.specs.Leaves.{IsLeaf, holds_atom, allows, answer, every_leaf, leaves, row_asked, Askable};
 
 use crate::marks::{mark_operands, next_leaf};
-use deck::concepts::{ConceptExpr, concept_at};
+use deck::Deck;
+use deck::concepts::ConceptExpr;
 use deck::numbers::{ClassId, ConceptId, Element};
-use deck::rows::{Span, item};
+use deck::rows::Span;
 use eval::labels::has_class;
 
 // Is it Top? Is it no atom? Is it no atom that the element lacks?
@@ -34,13 +35,12 @@ impl Question {
 }
 
 // Is it an And?
-pub fn is_and(deck: &[u8], concept: ConceptId) -> bool
-    requires accepted { IsAccepted deck.now }
-    requires concept_bound { concept.0 < concept_count (deck_of deck.now) }
-    ensures leaf { result ≡ false → IsLeaf (concept_at (deck_of deck.now) concept.0) }
-    ensures alone { result ≡ false → leaves (deck_of deck.now) concept.0 ≡ concept.0 ∷ [] }
+pub fn is_and(deck: &Deck, concept: ConceptId) -> bool
+    requires concept_bound { concept.0 < concept_count (content deck.now) }
+    ensures leaf { result ≡ false → IsLeaf (concept_at (content deck.now) concept.0) }
+    ensures alone { result ≡ false → leaves (content deck.now) concept.0 ≡ concept.0 ∷ [] }
 {
-    let expr = concept_at(deck, concept);
+    let expr = deck.concept_at(concept);
     match expr {
         ConceptExpr::And(_) => true,
         _ => false,
@@ -49,38 +49,36 @@ pub fn is_and(deck: &[u8], concept: ConceptId) -> bool
 
 // The answer of an atom.
 fn atom_answer(
-    deck: &[u8],
+    deck: &Deck,
     labels: &[u64],
     elements: u32,
     question: Question,
     class: ClassId,
 ) -> bool
-    requires accepted { IsAccepted deck.now }
-    requires askable { Askable (deck_of deck.now) labels.now elements question }
-    requires class_bound { class.0 < class_count (deck_of deck.now) }
-    ensures { result ≡ holds_atom question (row_asked (deck_of deck.now) labels.now elements question) class.0 }
+    requires askable { Askable (content deck.now) labels.now elements question }
+    requires class_bound { class.0 < class_count (content deck.now) }
+    ensures { result ≡ holds_atom question (row_asked (content deck.now) labels.now elements question) class.0 }
 {
     match question {
         Question::Universal => false,
         Question::Atomless => false,
-        Question::Held(e) => has_class(deck, labels, elements, e, class),
+        Question::Held(e) => has_class(deck.bytes, labels, elements, e, class),
     }
 }
 
 // The answer of a concept that is no And.
 pub fn leaf_answer(
-    deck: &[u8],
+    deck: &Deck,
     labels: &[u64],
     elements: u32,
     question: Question,
     concept: ConceptId,
 ) -> bool
-    requires accepted { IsAccepted deck.now }
-    requires askable { Askable (deck_of deck.now) labels.now elements question }
-    requires concept_bound { concept.0 < concept_count (deck_of deck.now) }
-    ensures { result ≡ answer (deck_of deck.now) question (row_asked (deck_of deck.now) labels.now elements question) concept.0 }
+    requires askable { Askable (content deck.now) labels.now elements question }
+    requires concept_bound { concept.0 < concept_count (content deck.now) }
+    ensures { result ≡ answer (content deck.now) question (row_asked (content deck.now) labels.now elements question) concept.0 }
 {
-    let expr = concept_at(deck, concept);
+    let expr = deck.concept_at(concept);
     match expr {
         ConceptExpr::Top => true,
         ConceptExpr::Atomic(class) => atom_answer(deck, labels, elements, question, class),
@@ -90,7 +88,7 @@ pub fn leaf_answer(
 
 // Does each operand from the first on answer yes, all below `owner`? By marks, none at first: what is shared is read once.
 fn marked_answer(
-    deck: &[u8],
+    deck: &Deck,
     labels: &[u64],
     elements: u32,
     question: Question,
@@ -99,12 +97,11 @@ fn marked_answer(
     first: u32,
     marks: &mut [u64],
 ) -> bool
-    requires accepted { IsAccepted deck.now }
-    requires askable { Askable (deck_of deck.now) labels.now elements question }
-    requires owner_bound { owner.0 < concept_count (deck_of deck.now) }
-    requires list_fits { ListFits deck.now owner.0 list }
+    requires askable { Askable (content deck.now) labels.now elements question }
+    requires owner_bound { owner.0 < concept_count (content deck.now) }
+    requires list_fits { ListFits deck.now.bytes.now owner.0 list }
     requires marks_value { marks.old ≡ replicate 256 0 }
-    ensures { result ≡ every (map (every_leaf (deck_of deck.now) question (row_asked (deck_of deck.now) labels.now elements question)) (drop first (list_of deck.now list))) }
+    ensures { result ≡ every (map (every_leaf (content deck.now) question (row_asked (content deck.now) labels.now elements question)) (drop first (list_of deck.now.bytes.now list))) }
 {
     mark_operands(deck, owner.0, list, first, marks);
     let mut k = next_leaf(deck, marks, owner.0);
@@ -119,7 +116,7 @@ fn marked_answer(
 
 // The same, with marks of its own.
 fn rest_answer(
-    deck: &[u8],
+    deck: &Deck,
     labels: &[u64],
     elements: u32,
     question: Question,
@@ -127,11 +124,10 @@ fn rest_answer(
     list: Span,
     first: u32,
 ) -> bool
-    requires accepted { IsAccepted deck.now }
-    requires askable { Askable (deck_of deck.now) labels.now elements question }
-    requires owner_bound { owner.0 < concept_count (deck_of deck.now) }
-    requires list_fits { ListFits deck.now owner.0 list }
-    ensures { result ≡ every (map (every_leaf (deck_of deck.now) question (row_asked (deck_of deck.now) labels.now elements question)) (drop first (list_of deck.now list))) }
+    requires askable { Askable (content deck.now) labels.now elements question }
+    requires owner_bound { owner.0 < concept_count (content deck.now) }
+    requires list_fits { ListFits deck.now.bytes.now owner.0 list }
+    ensures { result ≡ every (map (every_leaf (content deck.now) question (row_asked (content deck.now) labels.now elements question)) (drop first (list_of deck.now.bytes.now list))) }
 {
     let mut marks: [u64; 256] = [0; 256];
     marked_answer(
@@ -141,48 +137,43 @@ fn rest_answer(
 
 // The same of the whole list: marks only from the first And on.
 fn operands_answer(
-    deck: &[u8],
+    deck: &Deck,
     labels: &[u64],
     elements: u32,
     question: Question,
     owner: ConceptId,
     list: Span,
 ) -> bool
-    requires accepted { IsAccepted deck.now }
-    requires askable { Askable (deck_of deck.now) labels.now elements question }
-    requires owner_bound { owner.0 < concept_count (deck_of deck.now) }
-    requires list_fits { ListFits deck.now owner.0 list }
-    ensures { result ≡ every (map (every_leaf (deck_of deck.now) question (row_asked (deck_of deck.now) labels.now elements question)) (list_of deck.now list)) }
+    requires askable { Askable (content deck.now) labels.now elements question }
+    requires owner_bound { owner.0 < concept_count (content deck.now) }
+    requires list_fits { ListFits deck.now.bytes.now owner.0 list }
+    ensures { result ≡ every (map (every_leaf (content deck.now) question (row_asked (content deck.now) labels.now elements question)) (list_of deck.now.bytes.now list)) }
 {
-    let count = list.count;
-    let mut i = 0;
-    while i < count {
-        let o = ConceptId(item(deck, list, i));
+    for i in 0..list.count {
+        let o = ConceptId(deck.item(list, i));
         if is_and(deck, o) {
             return rest_answer(deck, labels, elements, question, owner, list, i);
         }
         if !leaf_answer(deck, labels, elements, question, o) {
             return false;
         }
-        i += 1;
     }
     true
 }
 
 // Does all that the concept's Ands lead to answer yes?
 pub fn every_leaf(
-    deck: &[u8],
+    deck: &Deck,
     labels: &[u64],
     elements: u32,
     question: Question,
     concept: ConceptId,
 ) -> bool
-    requires accepted { IsAccepted deck.now }
-    requires askable { Askable (deck_of deck.now) labels.now elements question }
-    requires concept_bound { concept.0 < concept_count (deck_of deck.now) }
-    ensures { result ≡ every_leaf (deck_of deck.now) question (row_asked (deck_of deck.now) labels.now elements question) concept.0 }
+    requires askable { Askable (content deck.now) labels.now elements question }
+    requires concept_bound { concept.0 < concept_count (content deck.now) }
+    ensures { result ≡ every_leaf (content deck.now) question (row_asked (content deck.now) labels.now elements question) concept.0 }
 {
-    let expr = concept_at(deck, concept);
+    let expr = deck.concept_at(concept);
     match expr {
         ConceptExpr::And(list) => operands_answer(deck, labels, elements, question, concept, list),
         _ => leaf_answer(deck, labels, elements, question, concept),

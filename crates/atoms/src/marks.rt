@@ -1,15 +1,16 @@
 // Marks on concepts, a bit each: for walks from a concept's number downward that read each operand list at most once.
 ghost use Rattle.std.specs.Prelude.{◌≡◌, ◌*◌, ◌<◌, ◌≤◌, length, drop};
-ghost use Rattle.deck.specs.Content.{IsAccepted, deck_of};
+ghost use Rattle.deck.specs.Accepted.{content};
 ghost use Rattle.deck.specs.Deck.{concept_count};
 ghost use Rattle.deck.specs.Reads.{list_of, ListFits};
 ghost use Rattle.atoms.specs.Label.{insert_all};
 ghost use Rattle.atoms.specs.Leaves.{highest_mark, Next};
 
 use crate::labels::{has_bit, insert_bit};
-use deck::concepts::{ConceptExpr, concept_at};
+use deck::Deck;
+use deck::concepts::ConceptExpr;
 use deck::numbers::ConceptId;
-use deck::rows::{Span, item};
+use deck::rows::Span;
 
 // The highest mark below i, or 16,384: word by word where a word is empty.
 fn highest_mark(marks: &[u64], i: u32) -> u32
@@ -34,30 +35,25 @@ fn highest_mark(marks: &[u64], i: u32) -> u32
 }
 
 // The operands of the list from the first on, all below `owner`, are marked.
-pub fn mark_operands(deck: &[u8], owner: u32, list: Span, first: u32, marks: &mut [u64])
-    requires accepted { IsAccepted deck.now }
-    requires list_fits { ListFits deck.now owner list }
+pub fn mark_operands(deck: &Deck, owner: u32, list: Span, first: u32, marks: &mut [u64])
+    requires list_fits { ListFits deck.now.bytes.now owner list }
     requires owner_in_bounds { owner ≤ length marks.old * 64 }
-    ensures { marks.new ≡ insert_all marks.old (drop first (list_of deck.now list)) }
+    ensures { marks.new ≡ insert_all marks.old (drop first (list_of deck.now.bytes.now list)) }
 {
-    let count = list.count;
-    let mut i = first;
-    while i < count {
-        insert_bit(marks, item(deck, list, i));
-        i += 1;
+    for i in first..list.count {
+        insert_bit(marks, deck.item(list, i));
     }
 }
 
 // The highest concept below i that is no And, marked or reached from a marked one, or 16,384. An And on the way marks its operands: its list is read here and, the walk going down, not again.
-pub fn next_leaf(deck: &[u8], marks: &mut [u64], i: u32) -> u32
-    requires accepted { IsAccepted deck.now }
-    requires i_bound { i ≤ concept_count (deck_of deck.now) }
+pub fn next_leaf(deck: &Deck, marks: &mut [u64], i: u32) -> u32
+    requires i_bound { i ≤ concept_count (content deck.now) }
     requires marks_len { length marks.old ≡ 256 }
-    ensures { Next (deck_of deck.now) marks.old i marks.new result }
+    ensures { Next (content deck.now) marks.old i marks.new result }
 {
     let mut k = highest_mark(marks, i);
     while k < 16384 {
-        let expr = concept_at(deck, ConceptId(k));
+        let expr = deck.concept_at(ConceptId(k));
         let ConceptExpr::And(list) = expr else {
             return k;
         };

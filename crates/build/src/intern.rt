@@ -10,7 +10,7 @@ ghost use Rattle.deck.specs.Content.{IsAccepted, deck_of};
 ghost use Rattle.eval.specs.Lent.{label_width};
 ghost use Rattle.atoms.specs.Floor.{floored};
 
-use atoms::floor::apply_floor;
+use atoms::bytes::apply_floor;
 use deck::numbers::Element;
 
 // The element of a label, and how many there are now.

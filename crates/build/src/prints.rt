@@ -9,7 +9,7 @@ ghost use Rattle.build.specs.Intern.{index_of, interned, Placed};
 ghost use Rattle.build.specs.Prints.{mixed, print_to, slot_of, Chained};
 
 use crate::intern::{Interned, row_start, same_label, store};
-use atoms::floor::apply_floor;
+use atoms::bytes::apply_floor;
 use deck::numbers::Element;
 
 // A fingerprint takes word w of place i in.

@@ -11,9 +11,8 @@ ghost use Rattle.model.specs.Still.{Stands};
 
 use crate::still::Still;
 use crate::triggers::{may_add, next_axiom, read_triggers, row_of};
-use atoms::antecedent::fires;
+use atoms::bytes::{fill_sizes, fires};
 use atoms::reasons::{Reason, note};
-use atoms::visits::fill_sizes;
 use build::bounds::Bounds;
 use build::exists::materialise_exists_sized;
 use build::tally::{Step, Tally, unchanged};

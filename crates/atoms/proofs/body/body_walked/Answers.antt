@@ -6,7 +6,7 @@ use Rattle.atoms.proofs.body.body_walked.Goals as goal
 
 pub join_atoms-j-requires : goal.join_atoms-j-requires
 join_atoms-j-requires c =
-    record { accepted = c.requires.accepted; r_bound = c.requires.r_bound; concept_bound = c.requires.concept_bound; label_len = ap length c.clear.ensures ∙ length-replicate _ 0 ∙ c.requires.label_len }
+    record { r_bound = c.requires.r_bound; concept_bound = c.requires.concept_bound; label_len = ap length c.clear.ensures ∙ length-replicate _ 0 ∙ c.requires.label_len }
 
 pub returns-then-not-j : goal.returns-then-not-j
 returns-then-not-j c =

@@ -1,4 +1,3 @@
-use Prim.Native.Nat.{◌-◌, ◌≤◌}
 use mathlib.Core.Path.{◌≡◌}
 use mathlib.Core.List.{map}
 use lib.ListN.{drop}
@@ -9,7 +8,4 @@ use Rattle.atoms.specs.Floor.{universal}
 use Rattle.atoms.proofs.floor.any_universal.Given as goal
 
 abbrev pub invariant-loop-i : goal.invariant-loop-i
-invariant-loop-i l = (l.i ≤ l.count) × (any (map (universal (deck_of l.deck)) (list_of l.deck l.list)) ≡ any (map (universal (deck_of l.deck)) (drop l.i (list_of l.deck l.list))))
-
-abbrev pub decreases-loop-i : goal.decreases-loop-i
-decreases-loop-i l = l.count - l.i
+invariant-loop-i l = any (map (universal (deck_of l.deck.bytes.now)) (list_of l.deck.bytes.now l.list)) ≡ any (map (universal (deck_of l.deck.bytes.now)) (drop l.i (list_of l.deck.bytes.now l.list)))

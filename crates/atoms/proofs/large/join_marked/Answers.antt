@@ -10,15 +10,15 @@ use Rattle.atoms.proofs.large.join_marked.Goals as goal
 
 pub insert_bit-requires : goal.insert_bit-requires
 insert_bit-requires c =
-    omega (arith, ap length c.requires.marks_value ∙ length-replicate {A = ℕ} 256 0, c.requires.concept_bound, (limited _ c.requires.accepted).concepts)
+    omega (arith, ap length c.requires.marks_value ∙ length-replicate {A = ℕ} 256 0, c.requires.concept_bound, (limited _ c.args.deck.now.accepted).concepts)
 
 pub overflow_add-concept : goal.overflow_add-concept
 overflow_add-concept c =
-    omega (arith, c.requires.concept_bound, (limited _ c.requires.accepted).concepts)
+    omega (arith, c.requires.concept_bound, (limited _ c.args.deck.now.accepted).concepts)
 
 pub next_leaf-k-requires : goal.next_leaf-k-requires
 next_leaf-k-requires c =
-    record { accepted = c.requires.accepted; i_bound = omega (arith, c.requires.concept_bound); marks_len = ap length c.insert_bit.ensures ∙ length-insert _ c.args.concept.0 ∙ ap length c.requires.marks_value ∙ length-replicate {A = ℕ} 256 0 }
+    record { i_bound = omega (arith, c.requires.concept_bound); marks_len = ap length c.insert_bit.ensures ∙ length-insert _ c.args.concept.0 ∙ ap length c.requires.marks_value ∙ length-replicate {A = ℕ} 256 0 }
 
 pub loop-k-init : goal.loop-k-init
 loop-k-init c =
@@ -29,11 +29,11 @@ loop-k-init c =
 pub join_leaf-next-requires : goal.join_leaf-next-requires
 join_leaf-next-requires c =
     let w = c.loop-k in
-    let u = w.invariant.2 c.loop-k-test.true in record { accepted = c.requires.accepted; r_bound = c.requires.r_bound; concept_bound = u.0; leaf = u.1; label_len = w.invariant.1 ∙ c.requires.label_len }
+    let u = w.invariant.2 c.loop-k-test.true in record { r_bound = c.requires.r_bound; concept_bound = u.0; leaf = u.1; label_len = w.invariant.1 ∙ c.requires.label_len }
 
 pub next_leaf-k-requires-in-loop-k : goal.next_leaf-k-requires-in-loop-k
 next_leaf-k-requires-in-loop-k c =
-    let w = c.loop-k in record { accepted = c.requires.accepted; i_bound = omega (arith, (w.invariant.2 c.loop-k-test.true).0); marks_len = w.invariant.0 }
+    let w = c.loop-k in record { i_bound = omega (arith, (w.invariant.2 c.loop-k-test.true).0); marks_len = w.invariant.0 }
 
 pub loop-k-smaller : goal.loop-k-smaller
 loop-k-smaller c =
@@ -53,4 +53,4 @@ shape_of-marks c =
 pub returns : goal.returns
 returns c =
     let w = c.loop-k in
-    coming-end _ _ w.marks w.k c.loop-k-test.false _ ∙ sym w.invariant.3 ∙ sym (coming-start _ _ (sound _ c.requires.accepted) c.args.concept.0 (omega (arith, c.requires.concept_bound, (limited _ c.requires.accepted).concepts)) c.requires.marks_value c.insert_bit.ensures c.next_leaf-k.ensures _)
+    coming-end _ _ w.marks w.k c.loop-k-test.false _ ∙ sym w.invariant.3 ∙ sym (coming-start _ _ (sound _ c.args.deck.now.accepted) c.args.concept.0 (omega (arith, c.requires.concept_bound, (limited _ c.args.deck.now.accepted).concepts)) c.requires.marks_value c.insert_bit.ensures c.next_leaf-k.ensures _)

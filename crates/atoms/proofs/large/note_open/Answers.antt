@@ -7,7 +7,7 @@ use Rattle.atoms.proofs.large.note_open.Goals as goal
 
 pub overflow_add-concept : goal.overflow_add-concept
 overflow_add-concept c =
-    omega (arith, c.requires.concept_bound, (limited _ c.requires.accepted).concepts)
+    omega (arith, c.requires.concept_bound, (limited _ c.args.deck.now.accepted).concepts)
 
 pub returns : goal.returns
 returns c =

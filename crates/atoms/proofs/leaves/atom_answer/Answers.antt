@@ -5,7 +5,7 @@ use Rattle.atoms.proofs.leaves.atom_answer.Goals as goal
 
 pub has_class-requires : goal.has_class-requires
 has_class-requires c =
-    let a = rw c.in-Held.is at c.requires.askable in record { accepted = c.requires.accepted; deck_in_bounds = a.0; e_lt_elements = a.1; class_bound = c.requires.class_bound }
+    let a = rw c.in-Held.is at c.requires.askable in record { accepted = c.args.deck.now.accepted; deck_in_bounds = a.0; e_lt_elements = a.1; class_bound = c.requires.class_bound }
 
 pub returns-in-Held : goal.returns-in-Held
 returns-in-Held c =

@@ -9,11 +9,11 @@ use Rattle.atoms.proofs.leaves.marked_answer.Goals as goal
 
 pub mark_operands-requires : goal.mark_operands-requires
 mark_operands-requires c =
-    record { accepted = c.requires.accepted; list_fits = c.requires.list_fits; owner_in_bounds = omega (arith, (limited _ c.requires.accepted).concepts, c.requires.owner_bound, ap length c.requires.marks_value, length-replicate {A = ℕ} 256 0) }
+    record { list_fits = c.requires.list_fits; owner_in_bounds = omega (arith, (limited _ c.args.deck.now.accepted).concepts, c.requires.owner_bound, ap length c.requires.marks_value, length-replicate {A = ℕ} 256 0) }
 
 pub next_leaf-k-requires : goal.next_leaf-k-requires
 next_leaf-k-requires c =
-    record { accepted = c.requires.accepted; i_bound = omega (arith, c.requires.owner_bound); marks_len = c.mark_operands.auto.marks ∙ ap length c.requires.marks_value ∙ length-replicate {A = ℕ} 256 0 }
+    record { i_bound = omega (arith, c.requires.owner_bound); marks_len = c.mark_operands.auto.marks ∙ ap length c.requires.marks_value ∙ length-replicate {A = ℕ} 256 0 }
 
 pub loop-k-init : goal.loop-k-init
 loop-k-init c =
@@ -21,7 +21,7 @@ loop-k-init c =
 
 pub leaf_answer-requires : goal.leaf_answer-requires
 leaf_answer-requires c =
-    let u = c.loop-k.invariant.1 c.loop-k-test.true in record { accepted = c.requires.accepted; askable = c.requires.askable; concept_bound = omega (arith, u.0, c.next_leaf-k.ensures.down u.1, c.requires.owner_bound) }
+    let u = c.loop-k.invariant.1 c.loop-k-test.true in record { askable = c.requires.askable; concept_bound = omega (arith, u.0, c.next_leaf-k.ensures.down u.1, c.requires.owner_bound) }
 
 pub shape_of-marks-then-not-leaf_answer : goal.shape_of-marks-then-not-leaf_answer
 shape_of-marks-then-not-leaf_answer c =
@@ -30,12 +30,12 @@ shape_of-marks-then-not-leaf_answer c =
 pub returns-then-not-leaf_answer : goal.returns-then-not-leaf_answer
 returns-then-not-leaf_answer c =
     let w = c.loop-k in
-    sym (asks-operands _ _ _ (list_of c.args.deck.now c.args.list) c.args.first c.args.owner.0 (omega (arith, (limited _ c.requires.accepted).concepts, c.requires.owner_bound)) c.requires.list_fits.below c.requires.marks_value c.mark_operands.ensures c.next_leaf-k.ensures ∙ w.invariant.2 ∙ asks-stop _ _ w.marks w.k c.loop-k-test.true (sym c.leaf_answer.ensures ∙ c.if-not-leaf_answer.true))
+    sym (asks-operands _ _ _ (list_of c.args.deck.now.bytes.now c.args.list) c.args.first c.args.owner.0 (omega (arith, (limited _ c.args.deck.now.accepted).concepts, c.requires.owner_bound)) c.requires.list_fits.below c.requires.marks_value c.mark_operands.ensures c.next_leaf-k.ensures ∙ w.invariant.2 ∙ asks-stop _ _ w.marks w.k c.loop-k-test.true (sym c.leaf_answer.ensures ∙ c.if-not-leaf_answer.true))
 
 pub next_leaf-k-requires-in-loop-k : goal.next_leaf-k-requires-in-loop-k
 next_leaf-k-requires-in-loop-k c =
     let w = c.loop-k in
-    let u = w.invariant.1 c.loop-k-test.true in record { accepted = c.requires.accepted; i_bound = omega (arith, u.0, c.next_leaf-k.ensures.down u.1, c.requires.owner_bound); marks_len = w.invariant.0 ∙ c.next_leaf-k.ensures.wide ∙ c.mark_operands.auto.marks ∙ ap length c.requires.marks_value ∙ length-replicate {A = ℕ} 256 0 }
+    let u = w.invariant.1 c.loop-k-test.true in record { i_bound = omega (arith, u.0, c.next_leaf-k.ensures.down u.1, c.requires.owner_bound); marks_len = w.invariant.0 ∙ c.next_leaf-k.ensures.wide ∙ c.mark_operands.auto.marks ∙ ap length c.requires.marks_value ∙ length-replicate {A = ℕ} 256 0 }
 
 pub loop-k-smaller : goal.loop-k-smaller
 loop-k-smaller c =
@@ -55,4 +55,4 @@ shape_of-marks c =
 pub returns : goal.returns
 returns c =
     let w = c.loop-k in
-    sym (asks-operands _ _ _ (list_of c.args.deck.now c.args.list) c.args.first c.args.owner.0 (omega (arith, (limited _ c.requires.accepted).concepts, c.requires.owner_bound)) c.requires.list_fits.below c.requires.marks_value c.mark_operands.ensures c.next_leaf-k.ensures ∙ w.invariant.2 ∙ asks-end _ _ w.marks w.k c.loop-k-test.false)
+    sym (asks-operands _ _ _ (list_of c.args.deck.now.bytes.now c.args.list) c.args.first c.args.owner.0 (omega (arith, (limited _ c.args.deck.now.accepted).concepts, c.requires.owner_bound)) c.requires.list_fits.below c.requires.marks_value c.mark_operands.ensures c.next_leaf-k.ensures ∙ w.invariant.2 ∙ asks-end _ _ w.marks w.k c.loop-k-test.false)

@@ -6,7 +6,7 @@ use Rattle.atoms.proofs.LeafLaws.{Walking}
 use Rattle.atoms.proofs.marks.next_leaf.Given as goal
 
 abbrev pub invariant-loop-k : goal.invariant-loop-k
-invariant-loop-k l = Walking (deck_of l.deck) l.initial.marks l.i l.marks l.k
+invariant-loop-k l = Walking (deck_of l.deck.bytes.now) l.initial.marks l.i l.marks l.k
 
 abbrev pub decreases-loop-k : goal.decreases-loop-k
 decreases-loop-k l = cond (ltb l.k 16384) (suc l.k) 0

@@ -1,4 +1,4 @@
-use Prim.Native.Nat.{◌+◌, ◌*◌, ◌-◌, ◌≤◌}
+use Prim.Native.Nat.{◌+◌, ◌*◌}
 use mathlib.Core.Path.{◌≡◌}
 use mathlib.Core.List.{map}
 use lib.ListN.{drop}
@@ -15,8 +15,5 @@ abbrev pub decreases-walk_operands : goal.decreases-walk_operands
 decreases-walk_operands l = l.owner.0 * 2
 
 abbrev pub invariant-walk_operands-loop-i : goal.invariant-walk_operands-loop-i
-invariant-walk_operands-loop-i l = let p = every_leaf (deck_of l.deck) l.question (row_asked (deck_of l.deck) l.labels l.elements l.question) in
-    (l.i ≤ l.count) × (every (map p (list_of l.deck l.list)) ≡ every (map p (drop l.i (list_of l.deck l.list))))
-
-abbrev pub decreases-walk_operands-loop-i : goal.decreases-walk_operands-loop-i
-decreases-walk_operands-loop-i l = l.count - l.i
+invariant-walk_operands-loop-i l = let p = every_leaf (deck_of l.deck.bytes.now) l.question (row_asked (deck_of l.deck.bytes.now) l.labels l.elements l.question) in
+    every (map p (list_of l.deck.bytes.now l.list)) ≡ every (map p (drop l.i (list_of l.deck.bytes.now l.list)))

@@ -1,4 +1,3 @@
-use Prim.Native.Nat.{◌-◌, ◌≤◌}
 use mathlib.Core.Path.{◌≡◌}
 use mathlib.Core.List.{map}
 use lib.ListN.{drop}
@@ -8,7 +7,4 @@ use Rattle.eval.specs.Lists.{every}
 use Rattle.atoms.proofs.target_label.holds_all.Given as goal
 
 abbrev pub invariant-loop-i : goal.invariant-loop-i
-invariant-loop-i l = (l.i ≤ l.count) × (every (map (has (list_of l.deck l.row)) (list_of l.deck l.list)) ≡ every (map (has (list_of l.deck l.row)) (drop l.i (list_of l.deck l.list))))
-
-abbrev pub decreases-loop-i : goal.decreases-loop-i
-decreases-loop-i l = l.count - l.i
+invariant-loop-i l = every (map (has (list_of l.deck.bytes.now l.row)) (list_of l.deck.bytes.now l.list)) ≡ every (map (has (list_of l.deck.bytes.now l.row)) (drop l.i (list_of l.deck.bytes.now l.list)))
