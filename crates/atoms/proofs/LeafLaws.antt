@@ -37,7 +37,7 @@ use Rattle.eval.proofs.Steps.{fits, each_below}
 use Rattle.atoms.specs.declared.leaves.Question.{Question}
 use Rattle.atoms.specs.declared.leaves.Question.TheVariants.{Universal, Atomless, Held}
 use Rattle.deck.specs.declared.numbers.ClassId.{ClassId}
-use Rattle.deck.specs.declared.numbers.Element.{Element}
+use denote.Ref.{Bor}
 use Rattle.atoms.specs.Label.{label_has, insert_bit, insert_all}
 use Rattle.atoms.specs.Floor.{universal_of, universal, atoms_of, required_atoms}
 use Rattle.atoms.specs.Antecedent.{some_in, has_atom, holds_atoms}
@@ -70,32 +70,32 @@ module _ (D : Deck) (W : Sound D) where
   leaves_at = numbered-at [] (λ c f. leaves_of c (concept_at D c) f) (λ c f g q. leaves-same c (concept_at D c) (fits D W c) f g q)
 
   -- a value that is every operand's at an And, and else the answer, is every leaf's answer
-  module _ (q : Question) (label : List ℕ) (value : ℕ → Bool) where
+  module _ (q : Question) (value : ℕ → Bool) where
     abbrev ByForm : ℕ → Concept → Type 0
     ByForm c (Concept.And l) = value c ≡ every (map value l)
-    ByForm c Concept.Top = value c ≡ answer_of q label Concept.Top
-    ByForm c Concept.Bot = value c ≡ answer_of q label Concept.Bot
-    ByForm c (Concept.Atomic k) = value c ≡ answer_of q label (Concept.Atomic k)
-    ByForm c (Concept.Nominal i) = value c ≡ answer_of q label (Concept.Nominal i)
-    ByForm c (Concept.SelfRestriction r) = value c ≡ answer_of q label (Concept.SelfRestriction r)
-    ByForm c (Concept.Not b) = value c ≡ answer_of q label (Concept.Not b)
-    ByForm c (Concept.Or l) = value c ≡ answer_of q label (Concept.Or l)
-    ByForm c (Concept.Some r b) = value c ≡ answer_of q label (Concept.Some r b)
-    ByForm c (Concept.All r b) = value c ≡ answer_of q label (Concept.All r b)
-    ByForm c (Concept.Min m r b) = value c ≡ answer_of q label (Concept.Min m r b)
-    ByForm c (Concept.Max m r b) = value c ≡ answer_of q label (Concept.Max m r b)
+    ByForm c Concept.Top = value c ≡ answer_of q Concept.Top
+    ByForm c Concept.Bot = value c ≡ answer_of q Concept.Bot
+    ByForm c (Concept.Atomic k) = value c ≡ answer_of q (Concept.Atomic k)
+    ByForm c (Concept.Nominal i) = value c ≡ answer_of q (Concept.Nominal i)
+    ByForm c (Concept.SelfRestriction r) = value c ≡ answer_of q (Concept.SelfRestriction r)
+    ByForm c (Concept.Not b) = value c ≡ answer_of q (Concept.Not b)
+    ByForm c (Concept.Or l) = value c ≡ answer_of q (Concept.Or l)
+    ByForm c (Concept.Some r b) = value c ≡ answer_of q (Concept.Some r b)
+    ByForm c (Concept.All r b) = value c ≡ answer_of q (Concept.All r b)
+    ByForm c (Concept.Min m r b) = value c ≡ answer_of q (Concept.Min m r b)
+    ByForm c (Concept.Max m r b) = value c ≡ answer_of q (Concept.Max m r b)
 
     and-true : (b : Bool) → b ≡ (b && true)
     and-true true = refl
     and-true false = refl
 
-    leaf-step : (c : ℕ) (k : Concept) → k ≡ concept_at D c → value c ≡ answer_of q label k → value c ≡ every (map (answer D q label) (c ∷ []))
+    leaf-step : (c : ℕ) (k : Concept) → k ≡ concept_at D c → value c ≡ answer_of q k → value c ≡ every (map (answer D q) (c ∷ []))
     unfolding every answer
-    leaf-step c k e h = h ∙ ap (answer_of q label) e ∙ and-true (answer_of q label (concept_at D c))
+    leaf-step c k e h = h ∙ ap (answer_of q) e ∙ and-true (answer_of q (concept_at D c))
 
-    form-step : (c : ℕ) (k : Concept) → k ≡ concept_at D c → ConceptFits (counts_in D) c k → ByForm c k → ((o : ℕ) → o < c → value o ≡ every_leaf D q label o) → value c ≡ every (map (answer D q label) (leaves_of c k (leaves D)))
+    form-step : (c : ℕ) (k : Concept) → k ≡ concept_at D c → ConceptFits (counts_in D) c k → ByForm c k → ((o : ℕ) → o < c → value o ≡ every_leaf D q o) → value c ≡ every (map (answer D q) (leaves_of c k (leaves D)))
     unfolding leaves_of every_leaf
-    form-step c (Concept.And l) e f h ih = h ∙ ap every (map_same value (λ o. every (map (answer D q label) (leaves D o))) l (λ o m. ih o (each_below c l f o m))) ∙ sym (every-flat (answer D q label) (leaves D) l)
+    form-step c (Concept.And l) e f h ih = h ∙ ap every (map_same value (λ o. every (map (answer D q) (leaves D o))) l (λ o m. ih o (each_below c l f o m))) ∙ sym (every-flat (answer D q) (leaves D) l)
     form-step c Concept.Top e f h ih = leaf-step c Concept.Top e h
     form-step c Concept.Bot e f h ih = leaf-step c Concept.Bot e h
     form-step c (Concept.Atomic k) e f h ih = leaf-step c (Concept.Atomic k) e h
@@ -108,12 +108,12 @@ module _ (D : Deck) (W : Sound D) where
     form-step c (Concept.Min m r b) e f h ih = leaf-step c (Concept.Min m r b) e h
     form-step c (Concept.Max m r b) e f h ih = leaf-step c (Concept.Max m r b) e h
 
-    by-leaves : ((c : ℕ) → ByForm c (concept_at D c)) → (c : ℕ) → value c ≡ every_leaf D q label c
+    by-leaves : ((c : ℕ) → ByForm c (concept_at D c)) → (c : ℕ) → value c ≡ every_leaf D q c
     unfolding every_leaf
-    by-leaves h = falling (λ c. value c ≡ every (map (answer D q label) (leaves D c))) (λ c ih. form-step c (concept_at D c) refl (fits D W c) (h c) ih ∙ ap (λ (l : List ℕ). every (map (answer D q label) l)) (sym (leaves_at c)))
+    by-leaves h = falling (λ c. value c ≡ every (map (answer D q) (leaves D c))) (λ c ih. form-step c (concept_at D c) refl (fits D W c) (h c) ih ∙ ap (λ (l : List ℕ). every (map (answer D q) l)) (sym (leaves_at c)))
 
   -- the three questions
-  universal-form : (c : ℕ) (k : Concept) → universal D c ≡ universal_of k (universal D) → ByForm Universal [] (universal D) c k
+  universal-form : (c : ℕ) (k : Concept) → universal D c ≡ universal_of k (universal D) → ByForm Universal (universal D) c k
   unfolding universal_of
   universal-form c (Concept.And l) h = h
   universal-form c Concept.Top h = h
@@ -128,19 +128,19 @@ module _ (D : Deck) (W : Sound D) where
   universal-form c (Concept.Min m r b) h = h
   universal-form c (Concept.Max m r b) h = h
 
-  pub universal-leaves : (c : ℕ) → universal D c ≡ every_leaf D Universal [] c
-  universal-leaves = by-leaves Universal [] (universal D) (λ c. universal-form c (concept_at D c) (universal-at D W c))
+  pub universal-leaves : (c : ℕ) → universal D c ≡ every_leaf D Universal c
+  universal-leaves = by-leaves Universal (universal D) (λ c. universal-form c (concept_at D c) (universal-at D W c))
 
-  module _ (e : Element) (label : List ℕ) where
+  module _ (label : Bor (List ℕ)) where
     abbrev holds : List ℕ → Bool
-    holds ks = every (map (label_has label) ks)
+    holds ks = every (map (label_has label.now) ks)
 
-    holds-form : (c : ℕ) (k : Concept) → required_atoms D c ≡ atoms_of k (required_atoms D) → ByForm (Held e) label (λ c. holds (required_atoms D c)) c k
+    holds-form : (c : ℕ) (k : Concept) → required_atoms D c ≡ atoms_of k (required_atoms D) → ByForm (Held label) (λ c. holds (required_atoms D c)) c k
     unfolding atoms_of every
-    holds-form c (Concept.And l) h = ap holds h ∙ every-flat (label_has label) (required_atoms D) l
+    holds-form c (Concept.And l) h = ap holds h ∙ every-flat (label_has label.now) (required_atoms D) l
     holds-form c Concept.Top h = ap holds h
     holds-form c Concept.Bot h = ap holds h
-    holds-form c (Concept.Atomic k) h = ap holds h ∙ sym (and-true (Held e) label (λ o. true) (label_has label k))
+    holds-form c (Concept.Atomic k) h = ap holds h ∙ sym (and-true (Held label) (λ o. true) (label_has label.now k))
     holds-form c (Concept.Nominal i) h = ap holds h
     holds-form c (Concept.SelfRestriction r) h = ap holds h
     holds-form c (Concept.Not b) h = ap holds h
@@ -150,9 +150,9 @@ module _ (D : Deck) (W : Sound D) where
     holds-form c (Concept.Min m r b) h = ap holds h
     holds-form c (Concept.Max m r b) h = ap holds h
 
-    pub holds-leaves : (c : ℕ) → holds_atoms D label c ≡ every_leaf D (Held e) label c
+    pub holds-leaves : (c : ℕ) → holds_atoms D label.now c ≡ every_leaf D (Held label) c
     unfolding holds_atoms
-    holds-leaves = by-leaves (Held e) label (λ c. holds (required_atoms D c)) (λ c. holds-form c (concept_at D c) (atoms-at D W c))
+    holds-leaves = by-leaves (Held label) (λ c. holds (required_atoms D c)) (λ c. holds-form c (concept_at D c) (atoms-at D W c))
 
   -- its required atoms are those of its leaves
   leaf-atoms : (c : ℕ) → leaves D c ≡ c ∷ [] → required_atoms D c ≡ flat_map (required_atoms D) (leaves D c)
@@ -186,7 +186,7 @@ module _ (D : Deck) (W : Sound D) where
       go true h = refl
       go false h = h
 
-  none-form : (c : ℕ) (k : Concept) → required_atoms D c ≡ atoms_of k (required_atoms D) → ByForm Atomless [] (λ c. not (some_in (required_atoms D c))) c k
+  none-form : (c : ℕ) (k : Concept) → required_atoms D c ≡ atoms_of k (required_atoms D) → ByForm Atomless (λ c. not (some_in (required_atoms D c))) c k
   unfolding atoms_of
   none-form c (Concept.And l) h = ap (λ (ks : List ℕ). not (some_in ks)) h ∙ ap not (some-flat (required_atoms D) l) ∙ not-any (λ o. some_in (required_atoms D o)) l
   none-form c Concept.Top h = ap (λ (ks : List ℕ). not (some_in ks)) h
@@ -201,14 +201,14 @@ module _ (D : Deck) (W : Sound D) where
   none-form c (Concept.Min m r b) h = ap (λ (ks : List ℕ). not (some_in ks)) h
   none-form c (Concept.Max m r b) h = ap (λ (ks : List ℕ). not (some_in ks)) h
 
-  pub atom-leaves : (c : ℕ) → not (has_atom D c) ≡ every_leaf D Atomless [] c
+  pub atom-leaves : (c : ℕ) → not (has_atom D c) ≡ every_leaf D Atomless c
   unfolding has_atom
-  atom-leaves = by-leaves Atomless [] (λ c. not (some_in (required_atoms D c))) (λ c. none-form c (concept_at D c) (atoms-at D W c))
+  atom-leaves = by-leaves Atomless (λ c. not (some_in (required_atoms D c))) (λ c. none-form c (concept_at D c) (atoms-at D W c))
 
 -- a concept that leads to itself only
-pub every-leaf-one : (D : Deck) (q : Question) (label : List ℕ) (c : ℕ) → leaves D c ≡ c ∷ [] → answer D q label c ≡ every_leaf D q label c
+pub every-leaf-one : (D : Deck) (q : Question) (c : ℕ) → leaves D c ≡ c ∷ [] → answer D q c ≡ every_leaf D q c
 unfolding every_leaf every
-every-leaf-one D q label c e = rw e (both_true (answer D q label c))
+every-leaf-one D q c e = rw e (both_true (answer D q c))
   where
     both_true : (b : Bool) → b ≡ (b && true)
     both_true true = refl
@@ -279,20 +279,20 @@ module _ (s : List ℕ) (A : IsAccepted s) (c : ℕ) {expr : ConceptExpr} (R : C
       none (ConceptExpr.Max m r b) h f = refl
 
   -- its answer, where it is no And
-  answer-read : (q : Question) (label : List ℕ) (v : ConceptExpr) → expr ≡ v → answer_of q label (expr_of s v) ≡ answer (deck_of s) q label c
+  answer-read : (q : Question) (v : ConceptExpr) → expr ≡ v → answer_of q (expr_of s v) ≡ answer (deck_of s) q c
   unfolding answer
-  answer-read q label v p = ap (answer_of q label) (read_is s A c R v p)
+  answer-read q v p = ap (answer_of q) (read_is s A c R v p)
 
-  pub answer-top : (q : Question) (label : List ℕ) → expr ≡ ConceptExpr.Top → true ≡ answer (deck_of s) q label c
-  answer-top q label p = answer-read q label _ p
+  pub answer-top : (q : Question) → expr ≡ ConceptExpr.Top → true ≡ answer (deck_of s) q c
+  answer-top q p = answer-read q _ p
 
-  pub answer-atom : (q : Question) (label : List ℕ) (k : ClassId) → expr ≡ ConceptExpr.Atomic k → holds_atom q label k.0 ≡ answer (deck_of s) q label c
-  answer-atom q label k p = answer-read q label _ p
+  pub answer-atom : (q : Question) (k : ClassId) → expr ≡ ConceptExpr.Atomic k → holds_atom q k.0 ≡ answer (deck_of s) q c
+  answer-atom q k p = answer-read q _ p
 
-  pub answer-other : (q : Question) (label : List ℕ) → OneOf (1 ∷ 3 ∷ 4 ∷ 5 ∷ 6 ∷ 7 ∷ 8 ∷ 9 ∷ 10 ∷ 11 ∷ []) (tag_of the_type expr) → allows q ≡ answer (deck_of s) q label c
-  answer-other q label h = allowed expr h ∙ answer-read q label expr refl
+  pub answer-other : (q : Question) → OneOf (1 ∷ 3 ∷ 4 ∷ 5 ∷ 6 ∷ 7 ∷ 8 ∷ 9 ∷ 10 ∷ 11 ∷ []) (tag_of the_type expr) → allows q ≡ answer (deck_of s) q c
+  answer-other q h = allowed expr h ∙ answer-read q expr refl
     where
-      allowed : (v : ConceptExpr) → OneOf (1 ∷ 3 ∷ 4 ∷ 5 ∷ 6 ∷ 7 ∷ 8 ∷ 9 ∷ 10 ∷ 11 ∷ []) (tag_of the_type v) → allows q ≡ answer_of q label (expr_of s v)
+      allowed : (v : ConceptExpr) → OneOf (1 ∷ 3 ∷ 4 ∷ 5 ∷ 6 ∷ 7 ∷ 8 ∷ 9 ∷ 10 ∷ 11 ∷ []) (tag_of the_type v) → allows q ≡ answer_of q (expr_of s v)
       allowed ConceptExpr.Top h = absurd (miss (1 ∷ 3 ∷ 4 ∷ 5 ∷ 6 ∷ 7 ∷ 8 ∷ 9 ∷ 10 ∷ 11 ∷ []) 0 tt h)
       allowed ConceptExpr.Bot h = refl
       allowed (ConceptExpr.Atomic k) h = absurd (miss (1 ∷ 3 ∷ 4 ∷ 5 ∷ 6 ∷ 7 ∷ 8 ∷ 9 ∷ 10 ∷ 11 ∷ []) 2 tt h)
@@ -307,12 +307,12 @@ module _ (s : List ℕ) (A : IsAccepted s) (c : ℕ) {expr : ConceptExpr} (R : C
       allowed (ConceptExpr.Max m r b) h = refl
 
   -- the answers of all that it leads to
-  pub every-leaf-and : (q : Question) (label : List ℕ) (l : Span) → expr ≡ ConceptExpr.And l → every (map (every_leaf (deck_of s) q label) (list_of s l)) ≡ every_leaf (deck_of s) q label c
+  pub every-leaf-and : (q : Question) (l : Span) → expr ≡ ConceptExpr.And l → every (map (every_leaf (deck_of s) q) (list_of s l)) ≡ every_leaf (deck_of s) q c
   unfolding every_leaf
-  every-leaf-and q label l p = sym (every-flat (answer (deck_of s) q label) (leaves (deck_of s)) (list_of s l)) ∙ ap (λ (xs : List ℕ). every (map (answer (deck_of s) q label) xs)) (leaves-and l p)
+  every-leaf-and q l p = sym (every-flat (answer (deck_of s) q) (leaves (deck_of s)) (list_of s l)) ∙ ap (λ (xs : List ℕ). every (map (answer (deck_of s) q) xs)) (leaves-and l p)
 
-  pub every-leaf-other : (q : Question) (label : List ℕ) → OneOf (0 ∷ 1 ∷ 2 ∷ 3 ∷ 4 ∷ 5 ∷ 7 ∷ 8 ∷ 9 ∷ 10 ∷ 11 ∷ []) (tag_of the_type expr) → answer (deck_of s) q label c ≡ every_leaf (deck_of s) q label c
-  every-leaf-other q label h = every-leaf-one (deck_of s) q label c (sym (leaves-other h))
+  pub every-leaf-other : (q : Question) → OneOf (0 ∷ 1 ∷ 2 ∷ 3 ∷ 4 ∷ 5 ∷ 7 ∷ 8 ∷ 9 ∷ 10 ∷ 11 ∷ []) (tag_of the_type expr) → answer (deck_of s) q c ≡ every_leaf (deck_of s) q c
+  every-leaf-other q h = every-leaf-one (deck_of s) q c (sym (leaves-other h))
 
 -- ---- lists with the same members
 pub has-append : (xs ys : List ℕ) (x : ℕ) → has (xs ++ ys) x ≡ (has xs x || has ys x)
@@ -560,11 +560,11 @@ module _ (D : Deck) where
   pub dropped-below : (n first : ℕ) (l : List ℕ) → ((j : ℕ) → j < length l → get_or l j 0 < n) → (j : ℕ) → j < length (drop first l) → get_or (drop first l) j 0 < n
   dropped-below n first l b j h = rw (get_or-drop first l j 0) (b (first + j) (omega (arith, h, length-drop first l)))
 
-  pub asks-operands : (q : Question) (label : List ℕ) (l : List ℕ) (first i : ℕ) → i ≤ 16384 → ((j : ℕ) → j < length l → get_or l j 0 < i) → {none was : List ℕ} → none ≡ replicate 256 0 → was ≡ insert_all none (drop first l)
-      → {marks : List ℕ} {k : ℕ} → Next D was i marks k → every (map (every_leaf D q label) (drop first l)) ≡ asks (answer D q label) marks k
+  pub asks-operands : (q : Question) (l : List ℕ) (first i : ℕ) → i ≤ 16384 → ((j : ℕ) → j < length l → get_or l j 0 < i) → {none was : List ℕ} → none ≡ replicate 256 0 → was ≡ insert_all none (drop first l)
+      → {marks : List ℕ} {k : ℕ} → Next D was i marks k → every (map (every_leaf D q) (drop first l)) ≡ asks (answer D q) marks k
   unfolding every_leaf
-  asks-operands q label l first i h b {none} {was} z m N =
-      sym (every-flat (answer D q label) (leaves D) (drop first l)) ∙ every-same (answer D q label) _ _ (begins 256 (drop first l) i h (dropped-below i first l b) (m ∙ ap (λ (x : List ℕ). insert_all x (drop first l)) z) N)
+  asks-operands q l first i h b {none} {was} z m N =
+      sym (every-flat (answer D q) (leaves D) (drop first l)) ∙ every-same (answer D q) _ _ (begins 256 (drop first l) i h (dropped-below i first l b) (m ∙ ap (λ (x : List ℕ). insert_all x (drop first l)) z) N)
 
   -- each step goes down
   pub next-less : {was : List ℕ} {i : ℕ} {marks : List ℕ} {k : ℕ} → Next D was i marks k → i < 16384 → cond (ltb k 16384) (suc k) 0 < cond (ltb i 16384) (suc i) 0

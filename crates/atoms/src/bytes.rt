@@ -10,6 +10,7 @@ ghost use Rattle.atoms.specs.Label.{label_of};
 ghost use Rattle.atoms.specs.Rows.{rows_of};
 ghost use Rattle.atoms.specs.Target.{TargetFits, target_of};
 
+use crate::labels::label_at;
 use crate::target_label::Target;
 use crate::{antecedent, body, floor, subsumers, target_label, visits};
 use deck::Deck;
@@ -81,7 +82,8 @@ pub fn fires(deck: &[u8], labels: &[u64], elements: u32, e: Element, ante: Conce
     requires ante_bound { ante.0 < concept_count (deck_of deck.now) }
     ensures { result ≡ (holds_atoms (deck_of deck.now) (get_or (rows_of (label_width (deck_of deck.now)) elements labels.now) e.0 []) ante.0 && is_rule (deck_of deck.now) ante.0) }
 {
-    antecedent::fires(&Deck { bytes: deck }, labels, elements, e, ante)
+    let deck = Deck { bytes: deck };
+    antecedent::fires(&deck, label_at(&deck, labels, elements, e), ante)
 }
 
 pub fn fill_sizes(deck: &[u8], sizes: &mut [u8])

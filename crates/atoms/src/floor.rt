@@ -12,7 +12,7 @@ ghost use Rattle.atoms.specs.Leaves.{IsLeaf};
 ghost use Rattle.atoms.specs.Floor.{universal, atom_rows, member_rows, floor_of, floor_label, has_real, floored};
 
 use crate::labels;
-use crate::leaves::{Question, every_leaf, is_and, leaf_answer};
+use crate::leaves::{Question, every_leaf, is_and};
 use crate::marks::{mark_operands, next_leaf};
 use crate::subsumers::insert_satisfiable;
 use deck::Deck;
@@ -25,11 +25,7 @@ pub fn is_universal_antecedent(deck: &Deck, concept: ConceptId) -> bool
     requires concept_bound { concept.0 < concept_count (content deck.now) }
     ensures { result ≡ universal (content deck.now) concept.0 }
 {
-    let none: [u64; 1] = [0; 1];
-    if is_and(deck, concept) {
-        return every_leaf(deck, &none, 0, Question::Universal, concept);
-    }
-    leaf_answer(deck, &none, 0, Question::Universal, concept)
+    every_leaf(deck, &Question::Universal, concept)
 }
 
 // The label takes the row of a concept that is a satisfiable atom in.

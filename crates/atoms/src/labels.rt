@@ -1,10 +1,14 @@
 // A label: words of 64 bits, class k being bit k mod 64 of word k / 64. One in the making is a slice of its own.
-ghost use Rattle.std.specs.Prelude.{◌≡◌, cond, ℕ, ◌+◌, ◌*◌, ◌/◌, ◌^◌, ◌<◌, ◌≤◌, length, get_or, replicate, eqb};
+ghost use Rattle.std.specs.Prelude.{[], ◌≡◌, cond, ℕ, ◌+◌, ◌*◌, ◌/◌, ◌^◌, ◌<◌, ◌≤◌, length, get_or, replicate, eqb};
 ghost use Rattle.std.specs.Int.Bits.{bit_or};
+ghost use Rattle.deck.specs.Accepted.{content};
+ghost use Rattle.eval.specs.Lent.{label_width};
+ghost use Rattle.atoms.specs.Rows.{rows_of};
 ghost use Rattle.atoms.specs.Label.{label_has, insert_bit, joined};
 
-use deck::numbers::ClassId;
-use eval::labels::bit_of;
+use deck::Deck;
+use deck::numbers::{ClassId, Element};
+use eval::labels::{bit_of, label_width};
 
 // A word with bit b.
 fn with_bit(w: u64, b: u64) -> u64
@@ -46,6 +50,17 @@ pub fn insert(label: &mut [u64], class: ClassId)
     ensures { label.new ≡ insert_bit label.old class.0 }
 {
     insert_bit(label, class.0);
+}
+
+// The label of element e, of so many in a buffer.
+pub fn label_at<'a>(deck: &Deck, labels: &'a [u64], elements: u32, e: Element) -> &'a [u64]
+    requires deck_in_bounds { elements * label_width (content deck.now) ≤ length labels.now }
+    requires e_lt_elements { e.0 < elements }
+    ensures { result.now ≡ get_or (rows_of (label_width (content deck.now)) elements labels.now) e.0 [] }
+{
+    let width = label_width(deck.bytes);
+    let at = e.0 as usize * width;
+    &labels[at..at + width]
 }
 
 // The first n words become 0.

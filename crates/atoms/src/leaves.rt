@@ -1,35 +1,46 @@
 // Questions of all that a concept's Ands lead to.
-ghost use Rattle.std.specs.Prelude.{◌≡◌, false, [], ◌∷◌, map, ◌<◌, drop, replicate};
+ghost use Rattle.std.specs.Prelude.{◌≡◌, false, ◌∷◌, [], map, ◌<◌, drop, replicate};
 ghost use Rattle.deck.specs.Accepted.{content};
-ghost use Rattle.deck.specs.Deck.{class_count, concept_count, concept_at};
+ghost use Rattle.deck.specs.Deck.{concept_count, concept_at};
 ghost use Rattle.deck.specs.Reads.{list_of, ListFits};
 ghost use Rattle.eval.specs.Lists.{every};
-ghost use Rattle.atoms.specs.Leaves.{IsLeaf, holds_atom, allows, answer, every_leaf, leaves, row_asked, Askable};
+ghost use Rattle.atoms.specs.Leaves.{IsLeaf, holds_atom, allows, answer, every_leaf, leaves};
 
+use crate::labels::has_bit;
 use crate::marks::{mark_operands, next_leaf};
 use deck::Deck;
 use deck::concepts::ConceptExpr;
-use deck::numbers::{ClassId, ConceptId, Element};
+use deck::numbers::{ClassId, ConceptId};
 use deck::rows::Span;
-use eval::labels::has_class;
 
-// Is it Top? Is it no atom? Is it no atom that the element lacks?
+// Is it Top? Is it no atom? Is it no atom that the label lacks?
 #[derive(Clone, Copy)]
-pub enum Question {
+pub enum Question<'a> {
     Universal,
     Atomless,
-    Held(Element),
+    Held(&'a [u64]),
 }
 
-impl Question {
+impl Question<'_> {
+    // The answer of an atom.
+    fn holds_atom(&self, class: ClassId) -> bool
+        ensures { result ≡ holds_atom self.now class.0 }
+    {
+        match self {
+            Question::Held(label) => {
+                class.0 as usize / 64 < label.len() && has_bit(label, class.0)
+            }
+            _ => false,
+        }
+    }
+
     // The answer of a concept that is neither Top nor an atom.
-    fn allows(self) -> bool
-        ensures { result ≡ allows self }
+    fn allows(&self) -> bool
+        ensures { result ≡ allows self.now }
     {
         match self {
             Question::Universal => false,
-            Question::Atomless => true,
-            Question::Held(_) => true,
+            _ => true,
         }
     }
 }
@@ -47,41 +58,15 @@ pub fn is_and(deck: &Deck, concept: ConceptId) -> bool
     }
 }
 
-// The answer of an atom.
-fn atom_answer(
-    deck: &Deck,
-    labels: &[u64],
-    elements: u32,
-    question: Question,
-    class: ClassId,
-) -> bool
-    requires askable { Askable (content deck.now) labels.now elements question }
-    requires class_bound { class.0 < class_count (content deck.now) }
-    ensures { result ≡ holds_atom question (row_asked (content deck.now) labels.now elements question) class.0 }
-{
-    match question {
-        Question::Universal => false,
-        Question::Atomless => false,
-        Question::Held(e) => has_class(deck.bytes, labels, elements, e, class),
-    }
-}
-
 // The answer of a concept that is no And.
-pub fn leaf_answer(
-    deck: &Deck,
-    labels: &[u64],
-    elements: u32,
-    question: Question,
-    concept: ConceptId,
-) -> bool
-    requires askable { Askable (content deck.now) labels.now elements question }
+pub fn leaf_answer(deck: &Deck, question: &Question, concept: ConceptId) -> bool
     requires concept_bound { concept.0 < concept_count (content deck.now) }
-    ensures { result ≡ answer (content deck.now) question (row_asked (content deck.now) labels.now elements question) concept.0 }
+    ensures { result ≡ answer (content deck.now) question.now concept.0 }
 {
     let expr = deck.concept_at(concept);
     match expr {
         ConceptExpr::Top => true,
-        ConceptExpr::Atomic(class) => atom_answer(deck, labels, elements, question, class),
+        ConceptExpr::Atomic(class) => question.holds_atom(class),
         _ => question.allows(),
     }
 }
@@ -89,24 +74,21 @@ pub fn leaf_answer(
 // Does each operand from the first on answer yes, all below `owner`? By marks, none at first: what is shared is read once.
 fn marked_answer(
     deck: &Deck,
-    labels: &[u64],
-    elements: u32,
-    question: Question,
+    question: &Question,
     owner: ConceptId,
     list: Span,
     first: u32,
     marks: &mut [u64],
 ) -> bool
-    requires askable { Askable (content deck.now) labels.now elements question }
     requires owner_bound { owner.0 < concept_count (content deck.now) }
     requires list_fits { ListFits deck.now.bytes.now owner.0 list }
     requires marks_value { marks.old ≡ replicate 256 0 }
-    ensures { result ≡ every (map (every_leaf (content deck.now) question (row_asked (content deck.now) labels.now elements question)) (drop first (list_of deck.now.bytes.now list))) }
+    ensures { result ≡ every (map (every_leaf (content deck.now) question.now) (drop first (list_of deck.now.bytes.now list))) }
 {
     mark_operands(deck, owner.0, list, first, marks);
     let mut k = next_leaf(deck, marks, owner.0);
     while k < 16384 {
-        if !leaf_answer(deck, labels, elements, question, ConceptId(k)) {
+        if !leaf_answer(deck, question, ConceptId(k)) {
             return false;
         }
         k = next_leaf(deck, marks, k);
@@ -117,44 +99,31 @@ fn marked_answer(
 // The same, with marks of its own.
 fn rest_answer(
     deck: &Deck,
-    labels: &[u64],
-    elements: u32,
-    question: Question,
+    question: &Question,
     owner: ConceptId,
     list: Span,
     first: u32,
 ) -> bool
-    requires askable { Askable (content deck.now) labels.now elements question }
     requires owner_bound { owner.0 < concept_count (content deck.now) }
     requires list_fits { ListFits deck.now.bytes.now owner.0 list }
-    ensures { result ≡ every (map (every_leaf (content deck.now) question (row_asked (content deck.now) labels.now elements question)) (drop first (list_of deck.now.bytes.now list))) }
+    ensures { result ≡ every (map (every_leaf (content deck.now) question.now) (drop first (list_of deck.now.bytes.now list))) }
 {
     let mut marks: [u64; 256] = [0; 256];
-    marked_answer(
-        deck, labels, elements, question, owner, list, first, &mut marks,
-    )
+    marked_answer(deck, question, owner, list, first, &mut marks)
 }
 
 // The same of the whole list: marks only from the first And on.
-fn operands_answer(
-    deck: &Deck,
-    labels: &[u64],
-    elements: u32,
-    question: Question,
-    owner: ConceptId,
-    list: Span,
-) -> bool
-    requires askable { Askable (content deck.now) labels.now elements question }
+fn operands_answer(deck: &Deck, question: &Question, owner: ConceptId, list: Span) -> bool
     requires owner_bound { owner.0 < concept_count (content deck.now) }
     requires list_fits { ListFits deck.now.bytes.now owner.0 list }
-    ensures { result ≡ every (map (every_leaf (content deck.now) question (row_asked (content deck.now) labels.now elements question)) (list_of deck.now.bytes.now list)) }
+    ensures { result ≡ every (map (every_leaf (content deck.now) question.now) (list_of deck.now.bytes.now list)) }
 {
     for i in 0..list.count {
         let o = ConceptId(deck.item(list, i));
         if is_and(deck, o) {
-            return rest_answer(deck, labels, elements, question, owner, list, i);
+            return rest_answer(deck, question, owner, list, i);
         }
-        if !leaf_answer(deck, labels, elements, question, o) {
+        if !leaf_answer(deck, question, o) {
             return false;
         }
     }
@@ -162,20 +131,13 @@ fn operands_answer(
 }
 
 // Does all that the concept's Ands lead to answer yes?
-pub fn every_leaf(
-    deck: &Deck,
-    labels: &[u64],
-    elements: u32,
-    question: Question,
-    concept: ConceptId,
-) -> bool
-    requires askable { Askable (content deck.now) labels.now elements question }
+pub fn every_leaf(deck: &Deck, question: &Question, concept: ConceptId) -> bool
     requires concept_bound { concept.0 < concept_count (content deck.now) }
-    ensures { result ≡ every_leaf (content deck.now) question (row_asked (content deck.now) labels.now elements question) concept.0 }
+    ensures { result ≡ every_leaf (content deck.now) question.now concept.0 }
 {
     let expr = deck.concept_at(concept);
     match expr {
-        ConceptExpr::And(list) => operands_answer(deck, labels, elements, question, concept, list),
-        _ => leaf_answer(deck, labels, elements, question, concept),
+        ConceptExpr::And(list) => operands_answer(deck, question, concept, list),
+        _ => leaf_answer(deck, question, concept),
     }
 }

@@ -21,7 +21,7 @@ loop-k-init c =
 
 pub leaf_answer-requires : goal.leaf_answer-requires
 leaf_answer-requires c =
-    let u = c.loop-k.invariant.1 c.loop-k-test.true in record { askable = c.requires.askable; concept_bound = omega (arith, u.0, c.next_leaf-k.ensures.down u.1, c.requires.owner_bound) }
+    let u = c.loop-k.invariant.1 c.loop-k-test.true in record { concept_bound = omega (arith, u.0, c.next_leaf-k.ensures.down u.1, c.requires.owner_bound) }
 
 pub shape_of-marks-then-not-leaf_answer : goal.shape_of-marks-then-not-leaf_answer
 shape_of-marks-then-not-leaf_answer c =
@@ -30,7 +30,7 @@ shape_of-marks-then-not-leaf_answer c =
 pub returns-then-not-leaf_answer : goal.returns-then-not-leaf_answer
 returns-then-not-leaf_answer c =
     let w = c.loop-k in
-    sym (asks-operands _ _ _ (list_of c.args.deck.now.bytes.now c.args.list) c.args.first c.args.owner.0 (omega (arith, (limited _ c.args.deck.now.accepted).concepts, c.requires.owner_bound)) c.requires.list_fits.below c.requires.marks_value c.mark_operands.ensures c.next_leaf-k.ensures ∙ w.invariant.2 ∙ asks-stop _ _ w.marks w.k c.loop-k-test.true (sym c.leaf_answer.ensures ∙ c.if-not-leaf_answer.true))
+    sym (asks-operands _ _ (list_of c.args.deck.now.bytes.now c.args.list) c.args.first c.args.owner.0 (omega (arith, (limited _ c.args.deck.now.accepted).concepts, c.requires.owner_bound)) c.requires.list_fits.below c.requires.marks_value c.mark_operands.ensures c.next_leaf-k.ensures ∙ w.invariant.2 ∙ asks-stop _ _ w.marks w.k c.loop-k-test.true (sym c.leaf_answer.ensures ∙ c.if-not-leaf_answer.true))
 
 pub next_leaf-k-requires-in-loop-k : goal.next_leaf-k-requires-in-loop-k
 next_leaf-k-requires-in-loop-k c =
@@ -55,4 +55,4 @@ shape_of-marks c =
 pub returns : goal.returns
 returns c =
     let w = c.loop-k in
-    sym (asks-operands _ _ _ (list_of c.args.deck.now.bytes.now c.args.list) c.args.first c.args.owner.0 (omega (arith, (limited _ c.args.deck.now.accepted).concepts, c.requires.owner_bound)) c.requires.list_fits.below c.requires.marks_value c.mark_operands.ensures c.next_leaf-k.ensures ∙ w.invariant.2 ∙ asks-end _ _ w.marks w.k c.loop-k-test.false)
+    sym (asks-operands _ _ (list_of c.args.deck.now.bytes.now c.args.list) c.args.first c.args.owner.0 (omega (arith, (limited _ c.args.deck.now.accepted).concepts, c.requires.owner_bound)) c.requires.list_fits.below c.requires.marks_value c.mark_operands.ensures c.next_leaf-k.ensures ∙ w.invariant.2 ∙ asks-end _ _ w.marks w.k c.loop-k-test.false)

@@ -20,7 +20,7 @@ is_and-requires c =
 
 pub rest_answer-requires : goal.rest_answer-requires
 rest_answer-requires c =
-    record { askable = c.requires.askable; owner_bound = c.requires.owner_bound; list_fits = c.requires.list_fits }
+    record { owner_bound = c.requires.owner_bound; list_fits = c.requires.list_fits }
 
 pub returns-then-is_and : goal.returns-then-is_and
 returns-then-is_and c =
@@ -28,18 +28,18 @@ returns-then-is_and c =
 
 pub leaf_answer-requires : goal.leaf_answer-requires
 leaf_answer-requires c =
-    let o = c.requires.list_fits.below c.loop-i.i (omega (arith, list_length c.args.deck.now.bytes.now c.args.list.start c.args.list.count)) in record { askable = c.requires.askable; concept_bound = omega (arith, o, c.requires.owner_bound, c.item.ensures) }
+    let o = c.requires.list_fits.below c.loop-i.i (omega (arith, list_length c.args.deck.now.bytes.now c.args.list.start c.args.list.count)) in record { concept_bound = omega (arith, o, c.requires.owner_bound, c.item.ensures) }
 
 pub returns-then-not-leaf_answer : goal.returns-then-not-leaf_answer
 returns-then-not-leaf_answer c =
     let w = c.loop-i in
-    let a = every-leaf-one _ _ _ c.item.result (c.is_and.ensures.alone c.if-is_and.false) in
+    let a = every-leaf-one _ _ c.item.result (c.is_and.ensures.alone c.if-is_and.false) in
     every-stop 0 (list_of c.args.deck.now.bytes.now c.args.list) w.i _ (omega (arith, list_length c.args.deck.now.bytes.now c.args.list.start c.args.list.count)) (rw c.item.ensures at (sym a ∙ sym c.leaf_answer.ensures ∙ c.if-not-leaf_answer.true)) ∙ sym w.invariant
 
 pub loop-i-preserved : goal.loop-i-preserved
 loop-i-preserved c =
     let w = c.loop-i in
-    let a = every-leaf-one _ _ _ c.item.result (c.is_and.ensures.alone c.if-is_and.false) in
+    let a = every-leaf-one _ _ c.item.result (c.is_and.ensures.alone c.if-is_and.false) in
     w.invariant ∙ every-step 0 (list_of c.args.deck.now.bytes.now c.args.list) w.i _ (omega (arith, list_length c.args.deck.now.bytes.now c.args.list.start c.args.list.count)) (rw c.item.ensures at (sym a ∙ sym c.leaf_answer.ensures ∙ c.if-not-leaf_answer.false))
 
 pub returns : goal.returns

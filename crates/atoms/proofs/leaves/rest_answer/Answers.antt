@@ -3,4 +3,4 @@ use Rattle.atoms.proofs.leaves.rest_answer.Goals as goal
 
 pub marked_answer-requires : goal.marked_answer-requires
 marked_answer-requires c =
-    record { askable = c.requires.askable; owner_bound = c.requires.owner_bound; list_fits = c.requires.list_fits; marks_value = refl }
+    record { owner_bound = c.requires.owner_bound; list_fits = c.requires.list_fits; marks_value = refl }

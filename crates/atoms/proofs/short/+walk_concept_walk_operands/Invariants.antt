@@ -5,7 +5,7 @@ use lib.ListN.{drop}
 use Rattle.deck.specs.Content.{deck_of}
 use Rattle.deck.specs.Reads.{list_of}
 use Rattle.eval.specs.Lists.{every}
-use Rattle.atoms.specs.Leaves.{every_leaf, row_asked}
+use Rattle.atoms.specs.Leaves.{every_leaf}
 use Rattle.atoms.proofs.short.+walk_concept_walk_operands.Given as goal
 
 abbrev pub decreases-walk_concept : goal.decreases-walk_concept
@@ -15,5 +15,5 @@ abbrev pub decreases-walk_operands : goal.decreases-walk_operands
 decreases-walk_operands l = l.owner.0 * 2
 
 abbrev pub invariant-walk_operands-loop-i : goal.invariant-walk_operands-loop-i
-invariant-walk_operands-loop-i l = let p = every_leaf (deck_of l.deck.bytes.now) l.question (row_asked (deck_of l.deck.bytes.now) l.labels l.elements l.question) in
+invariant-walk_operands-loop-i l = let p = every_leaf (deck_of l.deck.bytes.now) l.question in
     every (map p (list_of l.deck.bytes.now l.list)) ≡ every (map p (drop l.i (list_of l.deck.bytes.now l.list)))
