@@ -5,13 +5,14 @@ use mathlib.Core.Bool.{Bool, true, false, cond, not, ◌||◌, ◌&&◌, or-true
 use mathlib.Core.Path.{◌≡◌, refl, sym, ap, ◌∙◌}
 use mathlib.Core.List.{List, [], ◌∷◌, ◌++◌, map, flat_map, append-nil}
 use native.Mathlib.Omega.{arith}
-use borrow.Author.Tests.{lt-ltb, le-ltb}
 use lib.ListN.{length, get_or, replicate}
 use types.Run.{OneOf}
 use denote.Enum.Declared.{tag_of}
 use Rattle.deck.specs.contracts.concepts.ConceptExpr.{the_type}
 use Rattle.deck.specs.declared.concepts.ConceptExpr.{ConceptExpr}
 use Rattle.deck.specs.declared.numbers.ClassId.{ClassId}
+use Rattle.std.specs.Prelude.{Some, None}
+use Rattle.deck.specs.declared.numbers.ConceptId.{ConceptId}
 use Rattle.deck.specs.Deck.{Deck, concept_at, role_at}
 use Rattle.deck.specs.Sound.{Sound}
 use Rattle.deck.specs.Content.{IsAccepted, deck_of}
@@ -26,7 +27,7 @@ use Rattle.atoms.specs.declared.target_label.Target.TheVariants.{Row, Delta, Not
 use Rattle.atoms.specs.Walk.{walk}
 use Rattle.atoms.specs.Label.{insert_bit, insert_all, label_of}
 use Rattle.atoms.specs.Floor.{required_atoms}
-use Rattle.atoms.specs.Leaves.{leaves, IsLeaf, pending, and_below, Same, Next}
+use Rattle.atoms.specs.Leaves.{leaves, IsLeaf, pending, Same, Next}
 use Rattle.atoms.specs.Reasons.{noted, counted, Log, note, label_not_closed}
 use Rattle.atoms.specs.Target.{target_of}
 use Rattle.atoms.specs.Body.{Joined, row_of_class, body_of, row_by, delta_by, open_by, atom_row, atom_delta, atom_open, classes_of, reasons_of}
@@ -109,26 +110,29 @@ module _ (s : List ℕ) (A : IsAccepted s) (c : ℕ) {expr : ConceptExpr} (R : C
 -- ---- the walk downward: what is still to come
 module _ (D : Deck) (r : ℕ) where
   abbrev pub coming : List ℕ → ℕ → Gathered → Gathered
-  coming marks k s = took D r (flat_map (required_atoms D) (and_below D marks k)) s
+  coming marks i s = took D r (flat_map (required_atoms D) (pending D marks i)) s
 
-  pub coming-start : Sound D → (c : ℕ) → c + 1 ≤ 16384 → {none was : List ℕ} → none ≡ replicate 256 0 → was ≡ insert_bit none c → {marks : List ℕ} {k : ℕ} → Next D was (c + 1) marks k → (s : Gathered) → took D r (required_atoms D c) s ≡ coming marks k s
+  coming_same : (xs ys : List ℕ) → Same xs ys → (s : Gathered) → took D r (flat_map (required_atoms D) xs) s ≡ took D r (flat_map (required_atoms D) ys) s
+  coming_same xs ys S = took-same D r (flat_map (required_atoms D) xs) (flat_map (required_atoms D) ys) (flat-members (required_atoms D) xs ys S)
+
+  pub coming-start : Sound D → (c : ℕ) → c + 1 ≤ 16384 → {none was : List ℕ} → none ≡ replicate 256 0 → was ≡ insert_bit none c → (s : Gathered) → took D r (required_atoms D c) s ≡ coming was (c + 1) s
   unfolding flat_map insert_all
-  coming-start W c h {none} {was} z e {marks} {k} N s =
+  coming-start W c h {none} {was} z e s =
       let one : (j : ℕ) → j < 1 → get_or (c ∷ []) j 0 < c + 1 = λ j b. let y : j ≡ 0 = omega arith in rw y (omega arith) in
-      let S : Same (leaves D c ++ []) (and_below D marks k) = begins D 256 (c ∷ []) (c + 1) h one (e ∙ ap (λ (m : List ℕ). insert_bit m c) z) N in
+      let S : Same (leaves D c ++ []) (pending D was (c + 1)) = begins D 256 (c ∷ []) (c + 1) h one (e ∙ ap (λ (m : List ℕ). insert_bit m c) z) in
       ap (λ (ks : List ℕ). took D r ks s) (atoms-leaves D W c ∙ ap (flat_map (required_atoms D)) (sym (append-nil (leaves D c))))
-      ∙ took-same D r (flat_map (required_atoms D) (leaves D c ++ [])) (flat_map (required_atoms D) (and_below D marks k)) (flat-members (required_atoms D) (leaves D c ++ []) (and_below D marks k) S) s
+      ∙ coming_same (leaves D c ++ []) (pending D was (c + 1)) S s
 
-  pub coming-next : {was : List ℕ} {i : ℕ} → i < 16384 → (s : Gathered) {s' : Gathered} → s' ≡ took D r (required_atoms D i) s → {marks : List ℕ} {k : ℕ} → Next D was i marks k → coming was i s ≡ coming marks k s'
-  unfolding flat_map
-  coming-next {was} {i} h s {s'} e {marks} {k} N =
-      rw (lt-ltb i 16384 h)
-      (took-append D r (required_atoms D i) (flat_map (required_atoms D) (pending D was i)) s ∙ ap (took D r (flat_map (required_atoms D) (pending D was i))) (sym e)
-      ∙ took-same D r (flat_map (required_atoms D) (pending D was i)) (flat_map (required_atoms D) (and_below D marks k)) (flat-members (required_atoms D) (pending D was i) (and_below D marks k) N.same) s')
+  module _ {was : List ℕ} {i : ℕ} {marks : List ℕ} (s : Gathered) where
+    pub coming-next : {k : ConceptId} → Next D was i marks (Some k) → {s' : Gathered} → s' ≡ took D r (required_atoms D k.0) s → coming was i s ≡ coming marks k.0 s'
+    unfolding flat_map
+    coming-next {k} N {s'} e =
+        coming_same (pending D was i) (k.0 ∷ pending D marks k.0) N.same s
+        ∙ took-append D r (required_atoms D k.0) (flat_map (required_atoms D) (pending D marks k.0)) s ∙ ap (took D r (flat_map (required_atoms D) (pending D marks k.0))) (sym e)
 
-  pub coming-end : (marks : List ℕ) (k : ℕ) → 16384 ≤ k → (s : Gathered) → s ≡ coming marks k s
-  unfolding flat_map
-  coming-end marks k h s = rw (le-ltb k 16384 h) (took-none D r s)
+    pub coming-end : Next D was i marks None → s ≡ coming was i s
+    unfolding flat_map
+    coming-end N = took-none D r s ∙ sym (coming_same (pending D was i) [] N.same s)
 
 -- ---- the reasons
 module _ (D : Deck) (r c : ℕ) where

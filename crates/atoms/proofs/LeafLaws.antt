@@ -20,12 +20,12 @@ use denote.Enum.Declared.{tag_of}
 use Rattle.deck.specs.contracts.concepts.ConceptExpr.{the_type}
 use Rattle.deck.specs.declared.concepts.ConceptExpr.{ConceptExpr}
 use Rattle.deck.specs.declared.rows.Span.{Span}
-use Rattle.deck.specs.Deck.{Deck, Concept, concept_at, has}
+use Rattle.deck.specs.Deck.{Deck, Concept, concept_count, concept_at, has}
 use Rattle.deck.specs.Sound.{Sound, ConceptFits, counts_in}
 use Rattle.deck.specs.Content.{IsAccepted, deck_of}
 use Rattle.deck.specs.Reads.{ConceptRead, expr_of, list_of}
 use Rattle.deck.specs.Below.{any_below}
-use Rattle.deck.proofs.SoundLaws.{sound}
+use Rattle.deck.proofs.SoundLaws.{sound, limited}
 use Rattle.deck.proofs.BelowLaws.{and_left, and_right, any_same}
 use Rattle.deck.proofs.CaseLaws.{lt-or-le}
 use Rattle.eval.specs.Lists.{every, any}
@@ -38,6 +38,8 @@ use Rattle.atoms.specs.declared.leaves.Question.{Question}
 use Rattle.atoms.specs.declared.leaves.Question.TheVariants.{Universal, Atomless, Held}
 use Rattle.deck.specs.declared.numbers.ClassId.{ClassId}
 use denote.Ref.{Bor}
+use Rattle.std.specs.Prelude.{Option, Some, None}
+use Rattle.deck.specs.declared.numbers.ConceptId.{ConceptId}
 use Rattle.atoms.specs.Label.{label_has, insert_bit, insert_all}
 use Rattle.atoms.specs.Floor.{universal_of, universal, atoms_of, required_atoms}
 use Rattle.atoms.specs.Antecedent.{some_in, has_atom, holds_atoms}
@@ -343,16 +345,18 @@ pub every-same : (p : ℕ → Bool) (xs ys : List ℕ) → Same xs ys → every 
 every-same p xs ys S = same_truth (every (map p xs)) (every (map p ys)) (λ h. all-every p ys (λ x q. every-has p xs h x (S x ∙ q))) (λ h. all-every p xs (λ x q. every-has p ys h x (sym (S x) ∙ q)))
 
 -- ---- the walk downward
-pub mark-below : (marks : List ℕ) (i : ℕ) → i ≤ 16384 → highest_mark marks i < 16384 → highest_mark marks i < i
+pub mark-below : (marks : List ℕ) (i : ℕ) {k : ConceptId} → highest_mark marks i ≡ Some k → k.0 < i
 unfolding highest_mark
-mark-below marks zero h l = absurd (omega (arith, l))
-mark-below marks (suc i) h l = go (label_has marks i) (mark-below marks i (omega (arith, h))) l
+mark-below marks zero e = clash (cc)
+mark-below marks (suc i) {k} e = go (label_has marks i) e (λ f. mark-below marks i f)
   where
-    go : (b : Bool) → (highest_mark marks i < 16384 → highest_mark marks i < i) → cond b i (highest_mark marks i) < 16384 → cond b i (highest_mark marks i) < suc i
-    go true ih l = omega arith
-    go false ih l = omega (arith, ih l)
+    go : (b : Bool) → cond b (Some (record { 0 = i })) (highest_mark marks i) ≡ Some k → (highest_mark marks i ≡ Some k → k.0 < i) → k.0 < suc i
+    go true e ih =
+        let q : record { 0 = i } ≡ k = cc in
+        omega (arith, ap (λ (c : ConceptId). c.0) q)
+    go false e ih = omega (arith, ih e)
 
-pub mark-none : (marks : List ℕ) (k : ℕ) → k ≤ 0 → highest_mark marks k ≡ 16384
+pub mark-none : (marks : List ℕ) (k : ℕ) → k ≤ 0 → highest_mark marks k ≡ None
 unfolding highest_mark
 mark-none marks zero h = refl
 mark-none marks (suc k) h = absurd (omega (arith, h))
@@ -362,7 +366,7 @@ unfolding highest_mark
 mark-skip marks zero h e = absurd (omega (arith, h))
 mark-skip marks (suc k) h e = let p : suc k - 1 ≡ k = omega arith in rw (p, rw p at e)
 
-pub mark-here : (marks : List ℕ) (k : ℕ) → 0 < k → label_has marks (k - 1) ≡ true → highest_mark marks k ≡ k - 1
+pub mark-here : (marks : List ℕ) (k : ℕ) → 0 < k → label_has marks (k - 1) ≡ true → highest_mark marks k ≡ Some (record { 0 = k - 1 })
 unfolding highest_mark
 mark-here marks zero h e = absurd (omega (arith, h))
 mark-here marks (suc k) h e = let p : suc k - 1 ≡ k = omega arith in rw (p, rw p at e)
@@ -438,13 +442,18 @@ mark-skip-word marks k h r z =
     ap (highest_mark marks) a ∙ skip-word marks 64 (k / 64 - 1) (omega arith) z ∙ ap (highest_mark marks) b
 
 module _ (D : Deck) where
-  pub pending_next : (marks : List ℕ) (i : ℕ) → i ≤ 16384 → pending D marks i ≡ cond (ltb (highest_mark marks i) 16384) (leaves D (highest_mark marks i) ++ pending D marks (highest_mark marks i)) []
+  -- what a mark leads to, where there is one, and what those below it do
+  abbrev from_mark : List ℕ → Option ConceptId → List ℕ
+  from_mark marks None = []
+  from_mark marks (Some k) = leaves D k.0 ++ pending D marks k.0
+
+  pub pending_next : (marks : List ℕ) (i : ℕ) → pending D marks i ≡ from_mark marks (highest_mark marks i)
   unfolding pending highest_mark
-  pending_next marks zero h = refl
-  pending_next marks (suc i) h = go (label_has marks i) (pending_next marks i (omega (arith, h)))
+  pending_next marks zero = refl
+  pending_next marks (suc i) = go (label_has marks i) (pending_next marks i)
     where
-      go : (b : Bool) → pending D marks i ≡ cond (ltb (highest_mark marks i) 16384) (leaves D (highest_mark marks i) ++ pending D marks (highest_mark marks i)) [] → cond b (leaves D i ++ pending D marks i) (pending D marks i) ≡ cond (ltb (cond b i (highest_mark marks i)) 16384) (leaves D (cond b i (highest_mark marks i)) ++ pending D marks (cond b i (highest_mark marks i))) []
-      go true ih = rw (lt-ltb i 16384 (omega (arith, h)))
+      go : (b : Bool) → pending D marks i ≡ from_mark marks (highest_mark marks i) → cond b (leaves D i ++ pending D marks i) (pending D marks i) ≡ from_mark marks (cond b (Some (record { 0 = i })) (highest_mark marks i))
+      go true ih = refl
       go false ih = ih
 
   -- what is pending, number by number
@@ -486,88 +495,83 @@ module _ (D : Deck) where
   pending-none w zero = refl
   pending-none w (suc i) = rw (none_has w i) (pending-none w i)
 
-  -- ---- from one leaf to the next: the walk stands at mark k, which is not looked at yet
-  pub record Walking (was : List ℕ) (i : ℕ) (marks : List ℕ) (k : ℕ) : Type 0 where
+  -- ---- from one leaf to the next: what is marked below a number is not looked at yet
+  pub record Walking (was : List ℕ) (i : ℕ) (marks : List ℕ) (below : ℕ) : Type 0 where
     pub wide : length marks ≡ length was
-    pub down : k < 16384 → k < i
-    pub same : Same (pending D was i) (cond (ltb k 16384) (leaves D k ++ pending D marks k) [])
+    pub down : below ≤ i
+    pub same : Same (pending D was i) (pending D marks below)
 
-  pub walking_start : (was : List ℕ) (i : ℕ) → i ≤ 16384 → {k : ℕ} → k ≡ highest_mark was i → Walking was i was k
-  walking_start was i h {k} e = record {
-    wide = refl;
-    down = λ l. rw e (mark-below was i h (rw e at l));
-    same = λ x. ap (λ (xs : List ℕ). has xs x) (pending_next was i h ∙ rw e refl);
-  }
+  pub walking_start : (was : List ℕ) (i : ℕ) → Walking was i was i
+  walking_start was i = record { wide = refl; down = omega arith; same = λ x. refl }
 
-  -- at an And
-  pub walking-next : {was : List ℕ} {i : ℕ} {marks : List ℕ} {k : ℕ} → Walking was i marks k → k < 16384 → (l : List ℕ) → flat_map (leaves D) l ≡ leaves D k → ((j : ℕ) → j < length l → get_or l j 0 < k) → k ≤ length marks * 64
-      → {marks' : List ℕ} → marks' ≡ insert_all marks l → {k' : ℕ} → k' ≡ highest_mark marks' k → Walking was i marks' k'
-  walking-next {was} {i} {marks} {k} G h l e b w {marks'} m {k'} q = record {
-    wide = ap length m ∙ length-insert-all marks l ∙ G.wide;
-    down = λ z. omega (arith, G.down h, mark-below marks' k (omega (arith, h)) (rw q at z), q);
-    same = λ x.
-        G.same x ∙ ap (λ (c : Bool). has (cond c (leaves D k ++ pending D marks k) []) x) (lt-ltb k 16384 h) ∙ ap (λ (xs : List ℕ). has (xs ++ pending D marks k) x) (sym e)
-        ∙ pending-marked marks l k w b x ∙ ap (λ (ys : List ℕ). has (pending D ys k) x) (sym m) ∙ ap (λ (xs : List ℕ). has xs x) (pending_next marks' k (omega (arith, h)) ∙ rw q refl);
-  }
+  module _ {was : List ℕ} {i : ℕ} {marks : List ℕ} {below : ℕ} (G : Walking was i marks below) where
+    at-mark : {o : Option ConceptId} → o ≡ highest_mark marks below → Same (pending D was i) (from_mark marks o)
+    at-mark e x = G.same x ∙ ap (λ (xs : List ℕ). has xs x) (pending_next marks below ∙ ap (from_mark marks) (sym e))
 
-  -- at a leaf, and at the end
-  pub walking-leaf : {was : List ℕ} {i : ℕ} {marks : List ℕ} {k : ℕ} → Walking was i marks k → k < 16384 → k ∷ [] ≡ leaves D k → IsLeaf (concept_at D k) → Next D was i marks k
-  walking-leaf {was} {i} {marks} {k} G h e f = record {
-    same = λ x. G.same x ∙ ap (λ (xs : List ℕ). has (cond (ltb k 16384) (xs ++ pending D marks k) []) x) (sym e);
-    down = G.down;
-    leaf = λ l. f;
-    wide = G.wide;
-  }
+    module _ {k : ConceptId} (e : Some k ≡ highest_mark marks below) where
+      pub walking-down : k.0 < below
+      walking-down = mark-below marks below (sym e)
 
-  pub walking-end : {was : List ℕ} {i : ℕ} {marks : List ℕ} {k : ℕ} → Walking was i marks k → 16384 ≤ k → Next D was i marks 16384
-  walking-end {was} {i} {marks} {k} G h = record {
-    same = λ x. G.same x ∙ ap (λ (c : Bool). has (cond c (leaves D k ++ pending D marks k) []) x) (le-ltb k 16384 h);
-    down = λ l. absurd (omega (arith, l));
-    leaf = λ l. absurd (omega (arith, l));
-    wide = G.wide;
-  }
+      -- at an And
+      pub walking-next : (l : List ℕ) → flat_map (leaves D) l ≡ leaves D k.0 → ((j : ℕ) → j < length l → get_or l j 0 < k.0) → k.0 ≤ length marks * 64 → {marks' : List ℕ} → marks' ≡ insert_all marks l → Walking was i marks' k.0
+      walking-next l q b w {marks'} m = record {
+        wide = ap length m ∙ length-insert-all marks l ∙ G.wide;
+        down = omega (arith, G.down, walking-down);
+        same = λ x.
+            at-mark e x ∙ ap (λ (xs : List ℕ). has (xs ++ pending D marks k.0) x) (sym q)
+            ∙ pending-marked marks l k.0 w b x ∙ ap (λ (ys : List ℕ). has (pending D ys k.0) x) (sym m);
+      }
 
-  -- each step goes down, the last one to the end
-  pub walk-less : (was : List ℕ) {i k : ℕ} → k ≡ highest_mark was i → i < 16384 → cond (ltb k 16384) (suc k) 0 < cond (ltb i 16384) (suc i) 0
-  walk-less was {i} {k} e h =
-      ⊎_elim (λ (l : k < 16384). rw (lt-ltb k 16384 l, lt-ltb i 16384 h) (omega (arith, mark-below was i (omega (arith, h)) (rw e at l), e)))
-      (λ (g : 16384 ≤ k). rw (le-ltb k 16384 g, lt-ltb i 16384 h) (omega arith)) (lt-or-le k 16384)
+      -- at a leaf
+      pub walking-leaf : k.0 ∷ [] ≡ leaves D k.0 → IsLeaf (concept_at D k.0) → Next D was i marks (Some k)
+      walking-leaf q f = record {
+        same = λ x. at-mark e x ∙ ap (λ (xs : List ℕ). has (xs ++ pending D marks k.0) x) (sym q);
+        down = omega (arith, G.down, walking-down);
+        leaf = f;
+        wide = G.wide;
+      }
+
+    -- at the end
+    pub walking-end : None ≡ highest_mark marks below → Next D was i marks None
+    walking-end e = record { same = at-mark e; down = tt; leaf = tt; wide = G.wide }
+
+  -- a walk begins with all that the operands lead to
+  pub begins : (w : ℕ) (l : List ℕ) (i : ℕ) → i ≤ w * 64 → ((j : ℕ) → j < length l → get_or l j 0 < i) → {was : List ℕ} → was ≡ insert_all (replicate w 0) l → Same (flat_map (leaves D) l) (pending D was i)
+  unfolding has
+  begins w l i h b {was} m x =
+      sym (or-false (has (flat_map (leaves D) l) x)) ∙ ap (λ (xs : List ℕ). has (flat_map (leaves D) l) x || has xs x) (sym (pending-none w i)) ∙ sym (has-append (flat_map (leaves D) l) (pending D (replicate w 0) i) x)
+      ∙ pending-marked (replicate w 0) l i (rw (length-replicate {A = ℕ} w 0) h) b x ∙ ap (λ (ys : List ℕ). has (pending D ys i) x) (sym m)
 
   -- ---- a question of all that a walk still has before it
   abbrev asks : (ℕ → Bool) → List ℕ → ℕ → Bool
-  asks p marks k = every (map p (and_below D marks k))
+  asks p marks i = every (map p (pending D marks i))
 
-  -- a walk begins with all that the operands lead to
-  pub begins : (w : ℕ) (l : List ℕ) (i : ℕ) → i ≤ w * 64 → ((j : ℕ) → j < length l → get_or l j 0 < i) → {was : List ℕ} → was ≡ insert_all (replicate w 0) l → {marks : List ℕ} {k : ℕ} → Next D was i marks k → Same (flat_map (leaves D) l) (and_below D marks k)
-  unfolding has
-  begins w l i h b {was} m {marks} {k} N x =
-      sym (or-false (has (flat_map (leaves D) l) x)) ∙ ap (λ (xs : List ℕ). has (flat_map (leaves D) l) x || has xs x) (sym (pending-none w i)) ∙ sym (has-append (flat_map (leaves D) l) (pending D (replicate w 0) i) x)
-      ∙ pending-marked (replicate w 0) l i (rw (length-replicate {A = ℕ} w 0) h) b x ∙ ap (λ (ys : List ℕ). has (pending D ys i) x) (sym m) ∙ N.same x
+  module _ (p : ℕ → Bool) {was : List ℕ} {i : ℕ} {marks : List ℕ} where
+    module _ {k : ConceptId} (N : Next D was i marks (Some k)) where
+      pub asks-next : p k.0 ≡ true → asks p was i ≡ asks p marks k.0
+      unfolding every
+      asks-next e = every-same p (pending D was i) (k.0 ∷ pending D marks k.0) N.same ∙ rw e
 
-  pub asks-next : (p : ℕ → Bool) {was : List ℕ} {i : ℕ} → i < 16384 → p i ≡ true → {marks : List ℕ} {k : ℕ} → Next D was i marks k → asks p was i ≡ asks p marks k
-  unfolding every
-  asks-next p {was} {i} h e {marks} {k} N = rw (lt-ltb i 16384 h, e) (every-same p (pending D was i) (and_below D marks k) N.same)
+      pub asks-stop : p k.0 ≡ false → asks p was i ≡ false
+      unfolding every
+      asks-stop e = every-same p (pending D was i) (k.0 ∷ pending D marks k.0) N.same ∙ rw e
 
-  pub asks-stop : (p : ℕ → Bool) (marks : List ℕ) (k : ℕ) → k < 16384 → p k ≡ false → asks p marks k ≡ false
-  unfolding every
-  asks-stop p marks k h e = rw (lt-ltb k 16384 h, e)
-
-  pub asks-end : (p : ℕ → Bool) (marks : List ℕ) (k : ℕ) → 16384 ≤ k → asks p marks k ≡ true
-  unfolding every
-  asks-end p marks k h = rw (le-ltb k 16384 h)
+    pub asks-end : Next D was i marks None → asks p was i ≡ true
+    unfolding every
+    asks-end N = every-same p (pending D was i) [] N.same
 
   -- the operands from one on, which the walk begins with
   pub dropped-below : (n first : ℕ) (l : List ℕ) → ((j : ℕ) → j < length l → get_or l j 0 < n) → (j : ℕ) → j < length (drop first l) → get_or (drop first l) j 0 < n
   dropped-below n first l b j h = rw (get_or-drop first l j 0) (b (first + j) (omega (arith, h, length-drop first l)))
 
   pub asks-operands : (q : Question) (l : List ℕ) (first i : ℕ) → i ≤ 16384 → ((j : ℕ) → j < length l → get_or l j 0 < i) → {none was : List ℕ} → none ≡ replicate 256 0 → was ≡ insert_all none (drop first l)
-      → {marks : List ℕ} {k : ℕ} → Next D was i marks k → every (map (every_leaf D q) (drop first l)) ≡ asks (answer D q) marks k
+      → every (map (every_leaf D q) (drop first l)) ≡ asks (answer D q) was i
   unfolding every_leaf
-  asks-operands q l first i h b {none} {was} z m N =
-      sym (every-flat (answer D q) (leaves D) (drop first l)) ∙ every-same (answer D q) _ _ (begins 256 (drop first l) i h (dropped-below i first l b) (m ∙ ap (λ (x : List ℕ). insert_all x (drop first l)) z) N)
+  asks-operands q l first i h b {none} {was} z m =
+      sym (every-flat (answer D q) (leaves D) (drop first l)) ∙ every-same (answer D q) _ _ (begins 256 (drop first l) i h (dropped-below i first l b) (m ∙ ap (λ (x : List ℕ). insert_all x (drop first l)) z))
 
-  -- each step goes down
-  pub next-less : {was : List ℕ} {i : ℕ} {marks : List ℕ} {k : ℕ} → Next D was i marks k → i < 16384 → cond (ltb k 16384) (suc k) 0 < cond (ltb i 16384) (suc i) 0
-  next-less {was} {i} {marks} {k} N h =
-      ⊎_elim (λ (l : k < 16384). rw (lt-ltb k 16384 l, lt-ltb i 16384 h) (omega (arith, N.down l)))
-      (λ (g : 16384 ≤ k). rw (le-ltb k 16384 g, lt-ltb i 16384 h) (omega arith)) (lt-or-le k 16384)
+-- marks for all concepts
+pub marks-reach : (s : List ℕ) → IsAccepted s → {marks : List ℕ} → marks ≡ replicate 256 0 → {k : ℕ} → k < concept_count (deck_of s) → (k < 16384) × (k < length marks * 64)
+marks-reach s A {marks} z {k} h =
+    let n = (limited s A).concepts in
+    let w = ap length z ∙ length-replicate {A = ℕ} 256 0 in (omega (arith, n, h), omega (arith, n, h, w))

@@ -1,7 +1,8 @@
 -- What a concept leads to through Ands, and a walk over it from the concept's number downward.
-use Rattle.std.specs.Prelude.{ℕ, zero, suc, ◌<◌, Bool, true, false, cond, ◌≡◌, length, ltb, Result, Ok, Err}
+use Rattle.std.specs.Prelude.{ℕ, zero, suc, ◌<◌, Bool, true, false, cond, ◌≡◌, length, Option, Some, None, IfSome, Result, Ok, Err}
 use mathlib.Core.List.{List, [], ◌∷◌, ◌++◌, map, flat_map}
 use Rattle.deck.specs.Deck.{Deck, Concept, concept_at, has}
+use Rattle.deck.specs.declared.numbers.ConceptId.{ConceptId}
 use Rattle.eval.specs.Lists.{every}
 use Rattle.eval.specs.Numbered.{numbered}
 use Rattle.atoms.specs.declared.leaves.Question.{Question}
@@ -86,22 +87,23 @@ unfoldable pub pending : Deck → List ℕ → ℕ → List ℕ
 pending D marks zero = []
 pending D marks (suc i) = cond (label_has marks i) (leaves D i ++ pending D marks i) (pending D marks i)
 
--- the highest marked number below i, or 16,384
-unfoldable pub highest_mark : List ℕ → ℕ → ℕ
-highest_mark marks zero = 16384
-highest_mark marks (suc i) = cond (label_has marks i) i (highest_mark marks i)
+-- the highest marked number below i, where there is one
+unfoldable pub highest_mark : List ℕ → ℕ → Option ConceptId
+highest_mark marks zero = None
+highest_mark marks (suc i) = cond (label_has marks i) (Some (record { 0 = i })) (highest_mark marks i)
 
--- concept k, where it is one, and what the marked ones below it lead to
-abbrev pub and_below : Deck → List ℕ → ℕ → List ℕ
-and_below D marks k = cond (ltb k 16384) (k ∷ pending D marks k) []
+-- a concept, where there is one, and what the marked ones below it lead to
+abbrev pub and_below : Deck → List ℕ → Option ConceptId → List ℕ
+and_below D marks None = []
+and_below D marks (Some k) = k.0 ∷ pending D marks k.0
 
 -- lists with the same members
 abbrev pub Same : List ℕ → List ℕ → Type 0
 Same xs ys = (x : ℕ) → has xs x ≡ has ys x
 
 -- the next one of a walk that stood at i: nothing is lost, it is no And, and the walk goes down
-pub record Next (D : Deck) (was : List ℕ) (i : ℕ) (marks : List ℕ) (k : ℕ) : Type 0 where
-  pub same : Same (pending D was i) (and_below D marks k)
-  pub down : k < 16384 → k < i
-  pub leaf : k < 16384 → IsLeaf (concept_at D k)
+pub record Next (D : Deck) (was : List ℕ) (i : ℕ) (marks : List ℕ) (next : Option ConceptId) : Type 0 where
+  pub same : Same (pending D was i) (and_below D marks next)
+  pub down : IfSome next (λ k. k.0 < i)
+  pub leaf : IfSome next (λ k. IsLeaf (concept_at D k.0))
   pub wide : length marks ≡ length was

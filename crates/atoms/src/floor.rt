@@ -57,11 +57,11 @@ fn join_marked(
     requires marks_value { marks.old ≡ replicate 256 0 }
     ensures { label.new ≡ insert_all label.old (flat_map (atom_rows (content deck.now)) (drop first (list_of deck.now.bytes.now list))) }
 {
-    mark_operands(deck, owner.0, list, first, marks);
-    let mut k = next_leaf(deck, marks, owner.0);
-    while k < 16384 {
-        join_leaf(deck, ConceptId(k), label);
-        k = next_leaf(deck, marks, k);
+    mark_operands(deck, owner, list, first, marks);
+    let mut below = owner.0;
+    while let Some(leaf) = next_leaf(deck, marks, below) {
+        join_leaf(deck, leaf, label);
+        below = leaf.0;
     }
 }
 

@@ -97,16 +97,15 @@ fn join_marked(
     ensures { gathered label.new result ≡ took (content deck.now) r.0 (required_atoms (content deck.now) concept.0) (gathered label.old (seen_as false false false)) }
 {
     insert_bit(marks, concept.0);
-    let mut k = next_leaf(deck, marks, concept.0 + 1);
+    let mut below = concept.0 + 1;
     let mut seen = Seen {
         found: false,
         unclosed: false,
         delta: false,
     };
-    while k < 16384 {
-        let next = join_leaf(deck, r, ConceptId(k), label, seen);
-        seen = next;
-        k = next_leaf(deck, marks, k);
+    while let Some(leaf) = next_leaf(deck, marks, below) {
+        seen = join_leaf(deck, r, leaf, label, seen);
+        below = leaf.0;
     }
     seen
 }

@@ -85,13 +85,13 @@ fn marked_answer(
     requires marks_value { marks.old ≡ replicate 256 0 }
     ensures { result ≡ every (map (every_leaf (content deck.now) question.now) (drop first (list_of deck.now.bytes.now list))) }
 {
-    mark_operands(deck, owner.0, list, first, marks);
-    let mut k = next_leaf(deck, marks, owner.0);
-    while k < 16384 {
-        if !leaf_answer(deck, question, ConceptId(k)) {
+    mark_operands(deck, owner, list, first, marks);
+    let mut below = owner.0;
+    while let Some(leaf) = next_leaf(deck, marks, below) {
+        if !leaf_answer(deck, question, leaf) {
             return false;
         }
-        k = next_leaf(deck, marks, k);
+        below = leaf.0;
     }
     true
 }

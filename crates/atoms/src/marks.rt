@@ -12,10 +12,9 @@ use deck::concepts::ConceptExpr;
 use deck::numbers::ConceptId;
 use deck::rows::Span;
 
-// The highest mark below i, or 16,384: word by word where a word is empty.
-fn highest_mark(marks: &[u64], i: u32) -> u32
+// The highest mark below i: word by word where a word is empty.
+fn highest_mark(marks: &[u64], i: u32) -> Option<ConceptId>
     requires i_in_bounds { i ≤ length marks.now * 64 }
-    requires i_bound { i ≤ 16384 }
     ensures { result ≡ highest_mark marks.now i }
 {
     let mut k = i;
@@ -28,16 +27,16 @@ fn highest_mark(marks: &[u64], i: u32) -> u32
         }
         k -= 1;
         if has_bit(marks, k) {
-            return k;
+            return Some(ConceptId(k));
         }
     }
-    16384
+    None
 }
 
 // The operands of the list from the first on, all below `owner`, are marked.
-pub fn mark_operands(deck: &Deck, owner: u32, list: Span, first: u32, marks: &mut [u64])
-    requires list_fits { ListFits deck.now.bytes.now owner list }
-    requires owner_in_bounds { owner ≤ length marks.old * 64 }
+pub fn mark_operands(deck: &Deck, owner: ConceptId, list: Span, first: u32, marks: &mut [u64])
+    requires list_fits { ListFits deck.now.bytes.now owner.0 list }
+    requires owner_in_bounds { owner.0 ≤ length marks.old * 64 }
     ensures { marks.new ≡ insert_all marks.old (drop first (list_of deck.now.bytes.now list)) }
 {
     for i in first..list.count {
@@ -45,20 +44,20 @@ pub fn mark_operands(deck: &Deck, owner: u32, list: Span, first: u32, marks: &mu
     }
 }
 
-// The highest concept below i that is no And, marked or reached from a marked one, or 16,384. An And on the way marks its operands: its list is read here and, the walk going down, not again.
-pub fn next_leaf(deck: &Deck, marks: &mut [u64], i: u32) -> u32
+// The highest concept below i that is no And, marked or reached from a marked one. An And on the way marks its operands: its list is read here and, the walk going down, not again.
+pub fn next_leaf(deck: &Deck, marks: &mut [u64], i: u32) -> Option<ConceptId>
     requires i_bound { i ≤ concept_count (content deck.now) }
     requires marks_len { length marks.old ≡ 256 }
     ensures { Next (content deck.now) marks.old i marks.new result }
 {
-    let mut k = highest_mark(marks, i);
-    while k < 16384 {
-        let expr = deck.concept_at(ConceptId(k));
+    let mut below = i;
+    while let Some(k) = highest_mark(marks, below) {
+        let expr = deck.concept_at(k);
         let ConceptExpr::And(list) = expr else {
-            return k;
+            return Some(k);
         };
         mark_operands(deck, k, list, 0, marks);
-        k = highest_mark(marks, k);
+        below = k.0;
     }
-    16384
+    None
 }
