@@ -25,10 +25,6 @@ entry_at t k = get_or t k 0
 abbrev pub logs : List ℕ → ℕ → Log
 logs words total = record { words = words; total = total }
 
--- would one more reason be written, where `total` were given?
-abbrev pub has_room : List ℕ → ℕ → Bool
-has_room words total = ltb total 4294967295 && ltb total (length words / 3)
-
 module _ (D : Deck) (r : ℕ) where
   -- the RunDeltas of a concept's required atoms, one for each occurrence, in order
   abbrev pub deltas_of : ℕ → List Reason

@@ -7,9 +7,9 @@ ghost use Rattle.deck.specs.Reads.{list_of, ListFits};
 ghost use Rattle.atoms.specs.Walk.{walk};
 ghost use Rattle.atoms.specs.Floor.{required_atoms};
 ghost use Rattle.atoms.specs.Body.{atom_delta};
-ghost use Rattle.atoms.specs.Occurrences.{capped, sum_of, entry_at, logs, has_room, delta_count, noted_deltas, DeltasTo, IsFirst, FirstsTo};
+ghost use Rattle.atoms.specs.Occurrences.{capped, sum_of, entry_at, logs, delta_count, noted_deltas, DeltasTo, IsFirst, FirstsTo};
 
-use crate::reasons::{Reason, note};
+use crate::reasons::{Reason, has_room, note};
 use crate::target_label::{Target, target_label};
 use deck::Deck;
 use deck::concepts::ConceptExpr;
@@ -70,16 +70,6 @@ pub fn fill_deltas(deck: &Deck, r: RoleId, table: &mut [u32], count: u32)
     for k in 0..count {
         table[k as usize] = delta_entry(deck, r, ConceptId(k), table);
     }
-}
-
-// Would one more reason be written, where `total` were given?
-fn has_room(log: &[u32], total: u32) -> bool
-    ensures { result ≡ has_room log.now total }
-{
-    if total < 4294967295 {
-        return (total as usize) < log.len() / 3;
-    }
-    false
 }
 
 // The RunDeltas of a concept's required atoms, in order; the new total. Without room for one more only the count is taken.

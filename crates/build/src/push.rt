@@ -5,7 +5,7 @@ ghost use Rattle.build.specs.Push.{Tail};
 ghost use Rattle.build.specs.Push.{Left, Room, added, push_edge, start};
 
 use crate::tally::{Step, Tally};
-use atoms::reasons::{Reason, note};
+use atoms::reasons::{Bound, Reason, note};
 use eval::edges::{Edge, edge_at};
 
 fn append(edges: &mut [[u32; 3]], count: u32, e: Edge)
@@ -56,7 +56,7 @@ pub fn add_edge(limit: u32, edges: &mut [[u32; 3]], log: &mut [u32], t: Tally, e
     let mut reasons = t.reasons;
     let trips = limit < count;
     if trips {
-        reasons = note(log, reasons, Reason::bound_tripped(1, limit));
+        reasons = note(log, reasons, Reason::bound_tripped(Bound::Edges, limit));
     }
     Step {
         tally: Tally {

@@ -13,7 +13,7 @@ use crate::bounds::Bounds;
 use crate::intern::intern;
 use crate::push::push_edge;
 use crate::tally::{Step, Tally};
-use atoms::reasons::{Reason, note};
+use atoms::reasons::{Bound, Reason, note};
 use deck::numbers::{Element, RoleId};
 use eval::edges::Edge;
 
@@ -49,7 +49,7 @@ pub fn reach(
     let elements = placed.elements;
     let held = t.with_elements(elements);
     if bounds.max_elements < elements {
-        let reason = Reason::bound_tripped(0, bounds.max_elements);
+        let reason = Reason::bound_tripped(Bound::Elements, bounds.max_elements);
         let reasons = note(log, t.reasons, reason);
         return Arrival {
             step: Step::tripping(held.with_reasons(reasons)),
