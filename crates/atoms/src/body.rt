@@ -20,28 +20,23 @@ use deck::concepts::ConceptExpr;
 use deck::numbers::{ClassId, ConceptId, RoleId};
 use deck::rows::Span;
 
-// What the atoms so far gave: whether there was one, the first of them, whether one was not closed, and the total of reasons.
+// What the atoms so far gave: the first of them, whether one was not closed, and the total of reasons.
 #[derive(Clone, Copy)]
 pub struct Atoms {
-    pub found: bool,
-    pub first: ClassId,
+    pub first: Option<ClassId>,
     pub unclosed: bool,
     pub reasons: u32,
 }
 
-// One more atom: the first of all is kept.
-fn with_atom(j: Atoms, a: ClassId) -> Atoms
-    ensures { result ≡ met a.0 j }
-{
-    let found = j.found;
-    if found {
-        return j;
-    }
-    Atoms {
-        found: true,
-        first: a,
-        unclosed: j.unclosed,
-        reasons: j.reasons,
+impl Atoms {
+    // One more atom: the first of all is kept.
+    fn with(self, a: ClassId) -> Atoms
+        ensures { result ≡ met a.0 self }
+    {
+        Atoms {
+            first: self.first.or(Some(a)),
+            ..self
+        }
     }
 }
 
@@ -59,32 +54,22 @@ fn join_atom(
     requires label_len { length label.old ≡ label_width (content deck.now) }
     ensures { body label.new log.new result ≡ join_atom (content deck.now) r.0 a.0 (body label.old log.old j) }
 {
-    let k = with_atom(j, a);
-    let first = k.first;
-    let by = target_label(deck, a, r);
-    match by {
+    let met = j.with(a);
+    match target_label(deck, a, r) {
         Target::Row(class) => {
             insert_subsumers(deck, class, label);
-            k
+            met
         }
         Target::Delta(class) => {
             insert_subsumers(deck, class, label);
-            let reason = Reason::run_delta(a);
-            let reasons = note(log, k.reasons, reason);
-            Atoms {
-                found: k.found,
-                first,
-                unclosed: k.unclosed,
-                reasons,
-            }
+            let reasons = note(log, met.reasons, Reason::run_delta(a));
+            Atoms { reasons, ..met }
         }
         Target::NotClosed => {
             insert_subsumers(deck, a, label);
             Atoms {
-                found: k.found,
-                first,
                 unclosed: true,
-                reasons: k.reasons,
+                ..met
             }
         }
     }
@@ -165,21 +150,19 @@ fn body_walked(
 {
     labels::clear(label);
     let none = Atoms {
-        found: false,
-        first: ClassId(0),
+        first: None,
         unclosed: false,
         reasons,
     };
     let j = join_atoms(deck, r, concept, label, log, none);
-    if !j.found {
+    let Some(first) = j.first else {
         join_ranges(deck, r, label);
         return j.reasons;
-    }
+    };
     if !j.unclosed {
         return j.reasons;
     }
-    let reason = Reason::label_not_closed(j.first, r);
-    note(log, j.reasons, reason)
+    note(log, j.reasons, Reason::label_not_closed(first, r))
 }
 
 // The same: by a walk where that is short, or known to be, and else by tables.

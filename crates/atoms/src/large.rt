@@ -38,22 +38,20 @@ fn join_by(deck: &Deck, r: RoleId, a: ClassId, label: &mut [u64], seen: Seen) ->
     requires label_len { length label.old ≡ label_width (content deck.now) }
     ensures { gathered label.new result ≡ took (content deck.now) r.0 (a.0 ∷ []) (gathered label.old seen) }
 {
-    let by = target_label(deck, a, r);
-    match by {
+    match target_label(deck, a, r) {
         Target::Row(class) => {
             insert_subsumers(deck, class, label);
             Seen {
                 found: true,
-                unclosed: seen.unclosed,
-                delta: seen.delta,
+                ..seen
             }
         }
         Target::Delta(class) => {
             insert_subsumers(deck, class, label);
             Seen {
                 found: true,
-                unclosed: seen.unclosed,
                 delta: true,
+                ..seen
             }
         }
         Target::NotClosed => {
@@ -61,7 +59,7 @@ fn join_by(deck: &Deck, r: RoleId, a: ClassId, label: &mut [u64], seen: Seen) ->
             Seen {
                 found: true,
                 unclosed: true,
-                delta: seen.delta,
+                ..seen
             }
         }
     }
@@ -160,9 +158,7 @@ fn note_open(
 {
     fill_firsts(deck, table, concept.0 + 1);
     let k = concept.0 as usize;
-    let first = ClassId(table[k]);
-    let reason = Reason::label_not_closed(first, r);
-    note(log, total, reason)
+    note(log, total, Reason::label_not_closed(ClassId(table[k]), r))
 }
 
 // All reasons of a body with required atoms; the new total.
@@ -188,7 +184,8 @@ fn note_all(
     note_open(deck, r, concept, &mut table, log, total)
 }
 
-// The label becomes that of a body's target by r; the total of reasons after those of its atoms. The last call is never made, as there are at most 16,384 concepts: a function that calls itself has a frame of its own, so that its room is made only where it is needed.
+// The label becomes that of a body's target by r; the total of reasons after those of its atoms. With a frame of its own its room is made only where it is needed.
+#[inline(never)]
 pub fn body_large(
     deck: &Deck,
     r: RoleId,
@@ -208,9 +205,5 @@ pub fn body_large(
         join_ranges(deck, r, label);
         return reasons;
     }
-    let total = note_all(deck, r, concept, seen, log, reasons);
-    if 16384 < concept.0 {
-        return body_large(deck, r, concept, label, log, reasons);
-    }
-    total
+    note_all(deck, r, concept, seen, log, reasons)
 }

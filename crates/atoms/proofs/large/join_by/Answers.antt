@@ -6,20 +6,20 @@ use Rattle.atoms.proofs.large.join_by.Goals as goal
 
 pub insert_subsumers-requires : goal.insert_subsumers-requires
 insert_subsumers-requires c =
-    record { class_bound = subst (TargetFits (deck_of c.args.deck.now.bytes.now)) c.in-Row.is c.target_label-by.ensures.target_fits; label_len = c.requires.label_len }
+    record { class_bound = subst (TargetFits (deck_of c.args.deck.now.bytes.now)) c.in-Row.is c.target_label.ensures.target_fits; label_len = c.requires.label_len }
 
 pub insert_subsumers-requires-in-Delta : goal.insert_subsumers-requires-in-Delta
 insert_subsumers-requires-in-Delta c =
-    record { class_bound = subst (TargetFits (deck_of c.args.deck.now.bytes.now)) c.in-Delta.is c.target_label-by.ensures.target_fits; label_len = c.requires.label_len }
+    record { class_bound = subst (TargetFits (deck_of c.args.deck.now.bytes.now)) c.in-Delta.is c.target_label.ensures.target_fits; label_len = c.requires.label_len }
 
 pub returns-in-Row : goal.returns-in-Row
 returns-in-Row c =
-    took-row _ _ _ c.target_label-by.ensures.value _ _ _ c.in-Row.is c.insert_subsumers.ensures
+    took-row _ _ _ c.target_label.ensures.value _ _ _ c.in-Row.is c.insert_subsumers.ensures
 
 pub returns-in-Delta : goal.returns-in-Delta
 returns-in-Delta c =
-    took-delta _ _ _ c.target_label-by.ensures.value _ _ _ c.in-Delta.is c.insert_subsumers-in-Delta.ensures
+    took-delta _ _ _ c.target_label.ensures.value _ _ _ c.in-Delta.is c.insert_subsumers-in-Delta.ensures
 
 pub returns-in-NotClosed : goal.returns-in-NotClosed
 returns-in-NotClosed c =
-    took-open _ _ _ c.target_label-by.ensures.value _ _ c.in-NotClosed.is c.insert_subsumers-in-NotClosed.ensures
+    took-open _ _ _ c.target_label.ensures.value _ _ c.in-NotClosed.is c.insert_subsumers-in-NotClosed.ensures
