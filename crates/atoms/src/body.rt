@@ -62,7 +62,7 @@ fn join_atom(
         }
         Target::Delta(class) => {
             insert_subsumers(deck, class, label);
-            let reasons = note(log, met.reasons, Reason::run_delta(a));
+            let reasons = note(log, met.reasons, Reason::RunDelta(a));
             Atoms { reasons, ..met }
         }
         Target::NotClosed => {
@@ -162,7 +162,7 @@ fn body_walked(
     if !j.unclosed {
         return j.reasons;
     }
-    note(log, j.reasons, Reason::label_not_closed(first, r))
+    note(log, j.reasons, Reason::LabelNotClosed(first, r))
 }
 
 // The same: by a walk where that is short, or known to be, and else by tables.

@@ -13,6 +13,7 @@ ghost use Rattle.atoms.specs.Floor.{universal, atom_rows, member_rows, floor_of,
 
 use crate::labels;
 use crate::leaves::{Question, every_leaf, is_and};
+use crate::lists::member;
 use crate::marks::{mark_operands, next_leaf};
 use crate::subsumers::insert_satisfiable;
 use deck::Deck;
@@ -110,12 +111,7 @@ fn any_universal(deck: &Deck, list: Span) -> bool
     requires list_fits { ListFits deck.now.bytes.now (concept_count (content deck.now)) list }
     ensures { result ≡ any (map (universal (content deck.now)) (list_of deck.now.bytes.now list)) }
 {
-    for i in 0..list.count {
-        if is_universal_antecedent(deck, ConceptId(deck.item(list, i))) {
-            return true;
-        }
-    }
-    false
+    (0..list.count).any(|i| is_universal_antecedent(deck, member(deck, list, i)))
 }
 
 // A member that is not universal gives its atoms' rows.

@@ -158,7 +158,7 @@ fn note_open(
 {
     fill_firsts(deck, table, concept.0 + 1);
     let k = concept.0 as usize;
-    note(log, total, Reason::label_not_closed(ClassId(table[k]), r))
+    note(log, total, Reason::LabelNotClosed(ClassId(table[k]), r))
 }
 
 // All reasons of a body with required atoms; the new total.

@@ -97,7 +97,7 @@ pub fn note_deltas(
     }
     let expr = deck.concept_at(concept);
     match expr {
-        ConceptExpr::Atomic(class) => note(log, total, Reason::run_delta(class)),
+        ConceptExpr::Atomic(class) => note(log, total, Reason::RunDelta(class)),
         ConceptExpr::And(list) => note_operands(deck, r, concept, list, table, log, total),
         _ => total,
     }

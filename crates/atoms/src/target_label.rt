@@ -26,12 +26,7 @@ fn holds_all(deck: &Deck, row: Span, list: Span) -> bool
     requires within_2 { Within deck.now.bytes.now list }
     ensures { result ≡ every (map (has (list_of deck.now.bytes.now row)) (list_of deck.now.bytes.now list)) }
 {
-    for i in 0..list.count {
-        if !deck.row_has(row, deck.item(list, i)) {
-            return false;
-        }
-    }
-    true
+    (0..list.count).all(|i| deck.row_has(row, deck.item(list, i)))
 }
 
 // Does y's row hold every class of r's range row?

@@ -18,4 +18,4 @@ returns-then-not-j c =
 
 pub returns : goal.returns
 returns c =
-    close_open _ _ _ _ _ c.args.label.now _ c.clear.ensures c.requires.label_len c.join_atoms-j.ensures c.in-Some.is (not-false _ c.if-not-j.false) (rw c.label_not_closed.ensures at c.note.ensures.0) c.note.ensures.1
+    close_open _ _ _ _ _ c.args.label.now _ c.clear.ensures c.requires.label_len c.join_atoms-j.ensures c.in-Some.is (not-false _ c.if-not-j.false) c.note.ensures.0 c.note.ensures.1

@@ -18,7 +18,7 @@ returns-in-Row c =
 
 pub returns-in-Delta : goal.returns-in-Delta
 returns-in-Delta c =
-    joined-delta _ _ _ c.target_label.ensures.value _ _ _ c.with-met.ensures _ c.in-Delta.is c.insert_subsumers-in-Delta.ensures (rw c.run_delta.ensures at c.note-reasons.ensures.0) c.note-reasons.ensures.1
+    joined-delta _ _ _ c.target_label.ensures.value _ _ _ c.with-met.ensures _ c.in-Delta.is c.insert_subsumers-in-Delta.ensures c.note-reasons.ensures.0 c.note-reasons.ensures.1
 
 pub returns-in-NotClosed : goal.returns-in-NotClosed
 returns-in-NotClosed c =

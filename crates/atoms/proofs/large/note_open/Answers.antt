@@ -12,4 +12,4 @@ overflow_add-concept c =
 pub returns : goal.returns
 returns c =
     let f = c.fill_firsts.ensures c.args.concept.0 (omega arith) in
-    (c.note.ensures.0 ∙ ap (noted c.args.log.now c.args.total) (c.label_not_closed.ensures ∙ first-noted _ _ _ f c.requires.concept_value), c.note.ensures.1)
+    (c.note.ensures.0 ∙ ap (noted c.args.log.now c.args.total) (first-noted _ _ _ f c.requires.concept_value), c.note.ensures.1)

@@ -34,7 +34,7 @@ note_deltas-note_operands-requires t c =
 pub note_deltas-returns-in-Atomic : goal.note_deltas-returns-in-Atomic
 note_deltas-returns-in-Atomic t c =
     let x = c.requires.deltas_to c.args.concept.0 (omega arith) in
-    noted-atomic _ c.args.deck.now.accepted c.args.concept.0 c.concept_at-expr.ensures c.args.r.0 _ _ _ c.in-Atomic.is (λ e. c.if-known-eq0.false (x ∙ e)) (rw c.run_delta.ensures at c.note.ensures.0) c.note.ensures.1
+    noted-atomic _ c.args.deck.now.accepted c.args.concept.0 c.concept_at-expr.ensures c.args.r.0 _ _ _ c.in-Atomic.is (λ e. c.if-known-eq0.false (x ∙ e)) c.note.ensures.0 c.note.ensures.1
 
 pub note_deltas-returns-in-And : goal.note_deltas-returns-in-And
 note_deltas-returns-in-And t c =
