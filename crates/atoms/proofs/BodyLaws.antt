@@ -18,7 +18,6 @@ use Rattle.deck.specs.Content.{IsAccepted, deck_of}
 use Rattle.deck.specs.Reads.{ConceptRead, list_of}
 use Rattle.eval.specs.Lent.{label_width}
 use Rattle.eval.specs.Lists.{any}
-use Rattle.eval.proofs.Clash.{clash}
 use Rattle.atoms.specs.declared.body.Atoms.{Atoms}
 use Rattle.atoms.specs.declared.target_label.Target.{Target}
 use Rattle.atoms.specs.declared.target_label.Target.TheVariants.{Row, Delta, NotClosed}
@@ -27,7 +26,7 @@ use Rattle.atoms.specs.Label.{insert_all, label_of}
 use Rattle.atoms.specs.Floor.{required_atoms}
 use Rattle.atoms.specs.Reasons.{noted, counted, Log, note, run_delta, label_not_closed}
 use Rattle.atoms.specs.Target.{target_of}
-use Rattle.atoms.specs.Body.{Body, body, Joined, met, row_of_class, join_by, join_atom, join_atoms, no_atoms, noted_in, with_ranges, close_by, close_body, body_of, row_by, delta_by, open_by, atom_row, atom_delta, atom_open, classes_of, reasons_of}
+use Rattle.atoms.specs.Body.{Body, body, Joined, met, row_of_class, join_by, join_atom, join_atoms, no_atoms, noted_in, close_by, close_body, body_of, row_by, delta_by, open_by, atom_row, atom_delta, atom_open, classes_of, reasons_of}
 use Rattle.atoms.proofs.FloorLaws.{atoms-atomic, atoms-and, atoms-other}
 use Rattle.atoms.proofs.WalkLaws.{walk-append, walk-flat, walk-keeps}
 use Rattle.atoms.proofs.MemberLaws.{or_assoc}

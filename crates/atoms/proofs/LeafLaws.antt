@@ -43,7 +43,7 @@ use Rattle.deck.specs.declared.numbers.ConceptId.{ConceptId}
 use Rattle.atoms.specs.Label.{label_has, insert_bit, insert_all}
 use Rattle.atoms.specs.Floor.{universal_of, universal, atoms_of, required_atoms}
 use Rattle.atoms.specs.Antecedent.{some_in, has_atom, holds_atoms}
-use Rattle.atoms.specs.Leaves.{leaves_of, leaves, IsLeaf, holds_atom, allows, answer_of, answer, every_leaf, pending, highest_mark, and_below, Same, Next}
+use Rattle.atoms.specs.Leaves.{leaves_of, leaves, IsLeaf, holds_atom, allows, answer_of, answer, every_leaf, pending, highest_mark, Same, Next}
 use Rattle.atoms.proofs.ListWalks.{flat-same, flat-flat}
 use Rattle.atoms.proofs.MemberLaws.{has-insert, or_assoc, none_has, by_cases}
 use Rattle.atoms.proofs.LabelLaws.{length-insert, length-insert-all}

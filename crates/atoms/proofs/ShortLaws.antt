@@ -1,10 +1,10 @@
 -- What a short walk came to, as the walk over the operands and its caller take it.
 use Prim.Native.Nat.{ℕ, ◌<◌}
-use mathlib.Core.Bool.{Bool, true, false}
+use mathlib.Core.Bool.{Bool}
 use mathlib.Core.Path.{◌≡◌, sym, subst, ◌∙◌}
 use mathlib.Core.List.{List, map}
 use lib.ListN.{length, get_or, drop}
-use Rattle.std.specs.Prelude.{Result, Ok, Err, IsErrAnd}
+use Rattle.std.specs.Prelude.{Result, Err, IsErrAnd}
 use Rattle.deck.proofs.AnswerLaws.{handed_on}
 use Rattle.eval.specs.Lists.{every}
 use Rattle.atoms.specs.declared.short.Stop.{Stop}

@@ -1,5 +1,5 @@
 -- The occurrences of a body's required atoms without walking each: how many RunDeltas they give, those in order, and the first atom of all.
-use Rattle.std.specs.Prelude.{ℕ, ◌+◌, ◌/◌, ◌<◌, min, Bool, ◌&&◌, ◌≡◌, length, get_or, ltb}
+use Rattle.std.specs.Prelude.{ℕ, ◌+◌, ◌<◌, min, ◌≡◌, length, get_or}
 use mathlib.Core.List.{List, [], ◌∷◌, flat_map}
 use Rattle.deck.specs.Deck.{Deck}
 use Rattle.atoms.specs.declared.reasons.Reason.{Reason}

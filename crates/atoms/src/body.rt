@@ -11,6 +11,7 @@ ghost use Rattle.atoms.specs.Body.{body, met, row_of_class, join_atom, join_atom
 
 use crate::labels;
 use crate::large::body_large;
+use crate::lists::operand;
 use crate::reasons::{Reason, note};
 use crate::subsumers::insert_subsumers;
 use crate::target_label::{Target, target_label};
@@ -117,7 +118,7 @@ fn join_operands_atoms(
 {
     let mut held = j;
     for i in 0..list.count {
-        held = join_atoms(deck, r, ConceptId(deck.item(list, i)), label, log, held);
+        held = join_atoms(deck, r, operand(deck, owner, list, i), label, log, held);
     }
     held
 }

@@ -13,7 +13,7 @@ ghost use Rattle.atoms.specs.Floor.{universal, atom_rows, member_rows, floor_of,
 
 use crate::labels;
 use crate::leaves::{Question, every_leaf, is_and};
-use crate::lists::member;
+use crate::lists::{member, operand};
 use crate::marks::{mark_operands, next_leaf};
 use crate::subsumers::insert_satisfiable;
 use deck::Deck;
@@ -85,7 +85,7 @@ fn join_operands(deck: &Deck, owner: ConceptId, list: Span, label: &mut [u64])
     ensures { label.new ≡ insert_all label.old (flat_map (atom_rows (content deck.now)) (list_of deck.now.bytes.now list)) }
 {
     for i in 0..list.count {
-        let o = ConceptId(deck.item(list, i));
+        let o = operand(deck, owner, list, i);
         if is_and(deck, o) {
             return join_rest(deck, owner, list, i, label);
         }
@@ -132,7 +132,7 @@ fn join_members(deck: &Deck, list: Span, label: &mut [u64])
     ensures { label.new ≡ insert_all label.old (flat_map (member_rows (content deck.now)) (list_of deck.now.bytes.now list)) }
 {
     for i in 0..list.count {
-        join_member(deck, ConceptId(deck.item(list, i)), label);
+        join_member(deck, member(deck, list, i), label);
     }
 }
 

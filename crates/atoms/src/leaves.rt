@@ -7,6 +7,7 @@ ghost use Rattle.eval.specs.Lists.{every};
 ghost use Rattle.atoms.specs.Leaves.{IsLeaf, holds_atom, allows, answer, every_leaf, leaves};
 
 use crate::labels::has_bit;
+use crate::lists::operand;
 use crate::marks::{mark_operands, next_leaf};
 use deck::Deck;
 use deck::concepts::ConceptExpr;
@@ -97,13 +98,7 @@ fn marked_answer(
 }
 
 // The same, with marks of its own.
-fn rest_answer(
-    deck: &Deck,
-    question: &Question,
-    owner: ConceptId,
-    list: Span,
-    first: u32,
-) -> bool
+fn rest_answer(deck: &Deck, question: &Question, owner: ConceptId, list: Span, first: u32) -> bool
     requires owner_bound { owner.0 < concept_count (content deck.now) }
     requires list_fits { ListFits deck.now.bytes.now owner.0 list }
     ensures { result ≡ every (map (every_leaf (content deck.now) question.now) (drop first (list_of deck.now.bytes.now list))) }
@@ -119,7 +114,7 @@ fn operands_answer(deck: &Deck, question: &Question, owner: ConceptId, list: Spa
     ensures { result ≡ every (map (every_leaf (content deck.now) question.now) (list_of deck.now.bytes.now list)) }
 {
     for i in 0..list.count {
-        let o = ConceptId(deck.item(list, i));
+        let o = operand(deck, owner, list, i);
         if is_and(deck, o) {
             return rest_answer(deck, question, owner, list, i);
         }

@@ -7,6 +7,7 @@ ghost use Rattle.atoms.specs.Label.{insert_all};
 ghost use Rattle.atoms.specs.Leaves.{highest_mark, Next};
 
 use crate::labels::{has_bit, insert_bit};
+use crate::lists::operand;
 use deck::Deck;
 use deck::concepts::ConceptExpr;
 use deck::numbers::ConceptId;
@@ -40,7 +41,7 @@ pub fn mark_operands(deck: &Deck, owner: ConceptId, list: Span, first: u32, mark
     ensures { marks.new ≡ insert_all marks.old (drop first (list_of deck.now.bytes.now list)) }
 {
     for i in first..list.count {
-        insert_bit(marks, deck.item(list, i));
+        insert_bit(marks, operand(deck, owner, list, i).0);
     }
 }
 

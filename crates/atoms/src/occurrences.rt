@@ -9,6 +9,7 @@ ghost use Rattle.atoms.specs.Floor.{required_atoms};
 ghost use Rattle.atoms.specs.Body.{atom_delta};
 ghost use Rattle.atoms.specs.Occurrences.{capped, sum_of, entry_at, logs, delta_count, noted_deltas, DeltasTo, IsFirst, FirstsTo};
 
+use crate::lists::operand;
 use crate::reasons::{Reason, has_room, note};
 use crate::target_label::{Target, target_label};
 use deck::Deck;
@@ -38,7 +39,7 @@ fn sum_entries(deck: &Deck, owner: ConceptId, list: Span, table: &[u32]) -> u32
 {
     let mut sum: u32 = 0;
     for i in 0..list.count {
-        let o = deck.item(list, i) as usize;
+        let o = operand(deck, owner, list, i).0 as usize;
         sum = sum.saturating_add(table[o]);
     }
     sum
@@ -122,7 +123,7 @@ fn note_operands(
 {
     let mut held = total;
     for i in 0..list.count {
-        held = note_deltas(deck, r, ConceptId(deck.item(list, i)), table, log, held);
+        held = note_deltas(deck, r, operand(deck, owner, list, i), table, log, held);
     }
     held
 }
@@ -135,7 +136,7 @@ fn first_in(deck: &Deck, owner: ConceptId, list: Span, table: &[u32]) -> u32
     ensures { IsFirst (flat_map (required_atoms (content deck.now)) (list_of deck.now.bytes.now list)) result }
 {
     for i in 0..list.count {
-        let o = deck.item(list, i) as usize;
+        let o = operand(deck, owner, list, i).0 as usize;
         let x = table[o];
         if x != 4294967295 {
             return x;

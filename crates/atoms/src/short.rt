@@ -7,6 +7,7 @@ ghost use Rattle.eval.specs.Lists.{every};
 ghost use Rattle.atoms.specs.Leaves.{every_leaf, Decides};
 
 use crate::leaves::{Question, every_leaf, is_and, leaf_answer};
+use crate::lists::operand;
 use deck::Deck;
 use deck::concepts::ConceptExpr;
 use deck::numbers::ConceptId;
@@ -61,7 +62,7 @@ fn walk_operands(
 {
     let mut rest = left;
     for i in 0..list.count {
-        rest = walk_concept(deck, question, ConceptId(deck.item(list, i)), rest)?;
+        rest = walk_concept(deck, question, operand(deck, owner, list, i), rest)?;
     }
     Ok(rest)
 }

@@ -4,6 +4,7 @@ ghost use Rattle.deck.specs.Accepted.{content};
 ghost use Rattle.deck.specs.Deck.{concept_count};
 ghost use Rattle.deck.specs.Reads.{ListFits};
 
+use crate::lists::operand;
 use deck::Deck;
 use deck::concepts::ConceptExpr;
 use deck::numbers::ConceptId;
@@ -59,7 +60,7 @@ fn visits_all(deck: &Deck, owner: ConceptId, list: Span, deep: bool, left: u32) 
         if rest == 0 {
             return 0;
         }
-        let o = ConceptId(deck.item(list, i));
+        let o = operand(deck, owner, list, i);
         if is_end(deck, o, deep) {
             rest -= 1;
             continue;
@@ -76,7 +77,7 @@ fn size_of_and(deck: &Deck, sizes: &[u8], owner: ConceptId, list: Span) -> u8
 {
     let mut size: u8 = 1;
     for i in 0..list.count {
-        size = size.saturating_add(sizes[deck.item(list, i) as usize]);
+        size = size.saturating_add(sizes[operand(deck, owner, list, i).0 as usize]);
     }
     size
 }

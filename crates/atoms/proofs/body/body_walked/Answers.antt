@@ -1,12 +1,6 @@
 use borrow.Author.Tests.{not-true, not-false}
-use mathlib.Core.Path.{◌∙◌, ap}
-use lib.ListN.{length, length-replicate}
 use Rattle.atoms.proofs.BodyLaws.{close-none, close-all, close_open}
 use Rattle.atoms.proofs.body.body_walked.Goals as goal
-
-pub join_atoms-j-requires : goal.join_atoms-j-requires
-join_atoms-j-requires c =
-    record { r_bound = c.requires.r_bound; concept_bound = c.requires.concept_bound; label_len = ap length c.clear.ensures ∙ length-replicate _ 0 ∙ c.requires.label_len }
 
 pub returns-in_default : goal.returns-in_default
 returns-in_default c =

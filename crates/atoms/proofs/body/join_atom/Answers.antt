@@ -1,16 +1,5 @@
-use Rattle.deck.specs.Content.{deck_of}
-use mathlib.Core.Path.{subst}
-use Rattle.atoms.specs.Target.{TargetFits}
 use Rattle.atoms.proofs.BodyLaws.{joined-row, joined-delta, joined-open}
 use Rattle.atoms.proofs.body.join_atom.Goals as goal
-
-pub insert_subsumers-requires : goal.insert_subsumers-requires
-insert_subsumers-requires c =
-    record { class_bound = subst (TargetFits (deck_of c.args.deck.now.bytes.now)) c.in-Row.is c.target_label.ensures.target_fits; label_len = c.requires.label_len }
-
-pub insert_subsumers-requires-in-Delta : goal.insert_subsumers-requires-in-Delta
-insert_subsumers-requires-in-Delta c =
-    record { class_bound = subst (TargetFits (deck_of c.args.deck.now.bytes.now)) c.in-Delta.is c.target_label.ensures.target_fits; label_len = c.requires.label_len }
 
 pub returns-in-Row : goal.returns-in-Row
 returns-in-Row c =

@@ -4,20 +4,8 @@ use Rattle.deck.proofs.TableLaws.{list_length}
 use Rattle.deck.specs.Reads.{list_of}
 use Rattle.deck.specs.Content.{deck_of}
 use native.Mathlib.Omega.{arith}
-use mathlib.Core.Path.{refl, sym, ◌∙◌}
+use mathlib.Core.Path.{sym, ◌∙◌}
 use Rattle.atoms.proofs.body.join_ranges.Goals as goal
-
-pub range_of-list-requires : goal.range_of-list-requires
-range_of-list-requires c =
-    record { role_bound = c.requires.r_bound }
-
-pub loop-i-init : goal.loop-i-init
-loop-i-init c =
-    (refl, refl)
-
-pub item-requires : goal.item-requires
-item-requires c =
-    record { within = c.range_of-list.ensures.fits.within; i_lt_count = omega arith }
 
 pub insert_subsumers-requires : goal.insert_subsumers-requires
 insert_subsumers-requires c =

@@ -1,4 +1,4 @@
-use mathlib.Core.Path.{refl, sym, ◌∙◌}
+use mathlib.Core.Path.{sym, ◌∙◌}
 use native.Mathlib.Omega.{arith}
 use Rattle.deck.specs.Content.{deck_of}
 use Rattle.deck.specs.Deck.{Axiom}
@@ -6,14 +6,6 @@ use Rattle.atoms.specs.Label.{label_of}
 use Rattle.atoms.specs.Floor.{floor_label}
 use Rattle.atoms.proofs.ListWalks.{taken-end, taken_step}
 use Rattle.atoms.proofs.floor.compute_top_floor.Goals as goal
-
-pub loop-i-init : goal.loop-i-init
-loop-i-init c =
-    (refl, refl)
-
-pub join_axiom-requires : goal.join_axiom-requires
-join_axiom-requires c =
-    record { axiom_bound = omega (arith, c.axiom_count-i-end.ensures.is); label_len = c.loop-i.invariant.0 ∙ c.clear.auto.label ∙ c.requires.floor_len }
 
 pub loop-i-preserved : goal.loop-i-preserved
 loop-i-preserved c =

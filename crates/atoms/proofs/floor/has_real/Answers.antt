@@ -1,21 +1,13 @@
 use Prim.Native.Nat.{ℕ, ◌+◌, ◌*◌, ◌/◌, ◌%◌, ◌<◌}
 use mathlib.Core.Path.{◌≡◌, sym, ap, ◌∙◌}
 use native.Mathlib.Omega.{arith}
-use borrow.Author.Count.{below_none, below_more}
+use borrow.Author.Count.{below_more}
 use Rattle.deck.specs.Content.{deck_of}
 use Rattle.deck.specs.Below.{any_below}
 use Rattle.atoms.specs.Floor.{has_real}
 use Rattle.atoms.proofs.FloorLaws.{real-end, real-found}
 use Rattle.atoms.specs.Label.{label_has}
 use Rattle.atoms.proofs.floor.has_real.Goals as goal
-
-pub loop-i-init : goal.loop-i-init
-loop-i-init c =
-    below_none _
-
-pub bounds-label-i : goal.bounds-label-i
-bounds-label-i c =
-    omega (arith, c.real_count-real.ensures.most, c.requires.label_len)
 
 pub returns-then-label-i-ne0 : goal.returns-then-label-i-ne0
 unfolding has_real
@@ -28,10 +20,6 @@ returns-then-label-i-ne0 c =
 pub loop-i-preserved : goal.loop-i-preserved
 loop-i-preserved c =
     below_more _ _ c.loop-i.invariant c.if-label-i-ne0.false
-
-pub has_bit_below-requires : goal.has_bit_below-requires
-has_bit_below-requires c =
-    record { b_in_bounds = omega (arith, c.real_count-real.ensures.most, c.requires.label_len); b_bound = omega arith }
 
 pub returns : goal.returns
 unfolding has_real

@@ -3,13 +3,9 @@ use mathlib.Core.Path.{refl}
 use mathlib.Core.List.{flat_map}
 use Rattle.atoms.specs.Label.{insert_all}
 use Rattle.atoms.specs.Floor.{atom_rows}
-use Rattle.atoms.proofs.FloorLaws.{fits_read, rows-atomic}
+use Rattle.atoms.proofs.FloorLaws.{rows-atomic}
 use Rattle.atoms.proofs.LeafLaws.{leaf-atomless}
 use Rattle.atoms.proofs.floor.join_leaf.Goals as goal
-
-pub insert_satisfiable-requires : goal.insert_satisfiable-requires
-insert_satisfiable-requires c =
-    record { class_bound = fits_read _ c.args.deck.now.accepted c.args.concept.0 c.concept_at-expr.ensures _ c.in-Atomic.is; label_len = c.requires.label_len }
 
 pub returns-in-Atomic : goal.returns-in-Atomic
 returns-in-Atomic c =

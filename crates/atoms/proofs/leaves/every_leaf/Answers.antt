@@ -1,12 +1,7 @@
 use borrow.Enum.Refused.{opened}
 use mathlib.Core.Path.{◌∙◌}
-use Rattle.atoms.proofs.FloorLaws.{fits_read}
 use Rattle.atoms.proofs.LeafLaws.{every-leaf-and, every-leaf-other}
 use Rattle.atoms.proofs.leaves.every_leaf.Goals as goal
-
-pub operands_answer-requires : goal.operands_answer-requires
-operands_answer-requires c =
-    record { owner_bound = c.requires.concept_bound; list_fits = fits_read _ c.args.deck.now.accepted c.args.concept.0 c.concept_at-expr.ensures _ c.in-And.is }
 
 pub returns-in-And : goal.returns-in-And
 returns-in-And c =

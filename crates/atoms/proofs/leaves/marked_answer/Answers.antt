@@ -1,4 +1,4 @@
-use mathlib.Core.Path.{◌≡◌, sym, ◌∙◌}
+use mathlib.Core.Path.{sym, ◌∙◌}
 use native.Mathlib.Omega.{arith}
 use Rattle.deck.specs.Reads.{list_of}
 use Rattle.atoms.proofs.LeafLaws.{asks-operands, asks-next, asks-stop, asks-end, marks-reach}

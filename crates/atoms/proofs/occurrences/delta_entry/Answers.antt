@@ -4,14 +4,6 @@ use Rattle.atoms.proofs.FloorLaws.{fits_read}
 use Rattle.atoms.proofs.OccurrenceLaws.{count-atomic, count-and, count-other}
 use Rattle.atoms.proofs.occurrences.delta_entry.Goals as goal
 
-pub atom_count-requires : goal.atom_count-requires
-atom_count-requires c =
-    record { r_bound = c.requires.r_bound; a_bound = fits_read _ c.args.deck.now.accepted c.args.concept.0 c.concept_at-expr.ensures _ c.in-Atomic.is }
-
-pub sum_entries-requires : goal.sum_entries-requires
-sum_entries-requires c =
-    record { list_fits = fits_read _ c.args.deck.now.accepted c.args.concept.0 c.concept_at-expr.ensures _ c.in-And.is; owner_in_bounds = c.requires.concept_in_bounds }
-
 pub returns-in-Atomic : goal.returns-in-Atomic
 returns-in-Atomic c =
     c.atom_count.ensures ∙ count-atomic _ c.args.deck.now.accepted c.args.concept.0 c.concept_at-expr.ensures _ _ c.in-Atomic.is

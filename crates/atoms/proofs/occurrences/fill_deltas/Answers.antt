@@ -1,24 +1,11 @@
 use Prim.Native.Nat.{ℕ, ◌<◌}
-use mathlib.Core.Path.{◌≡◌, refl}
+use mathlib.Core.Path.{◌≡◌}
 use native.Mathlib.Omega.{arith}
 use lib.ListN.{length-set}
 use Rattle.deck.specs.Content.{deck_of}
 use Rattle.atoms.specs.Occurrences.{delta_count}
 use Rattle.atoms.proofs.OccurrenceLaws.{table_more}
-use borrow.Author.Count.{below_none}
 use Rattle.atoms.proofs.occurrences.fill_deltas.Goals as goal
-
-pub loop-k-init : goal.loop-k-init
-loop-k-init c =
-    (refl, below_none _)
-
-pub delta_entry-requires : goal.delta_entry-requires
-delta_entry-requires c =
-    let w = c.loop-k in record { r_bound = c.requires.r_bound; concept_bound = omega (arith, c.requires.count_bound); concept_in_bounds = omega (arith, w.invariant.0, c.requires.count_in_bounds); deltas_to = w.invariant.1 }
-
-pub bounds-table-k : goal.bounds-table-k
-bounds-table-k c =
-    omega (arith, c.loop-k.invariant.0, c.requires.count_in_bounds)
 
 pub loop-k-preserved : goal.loop-k-preserved
 loop-k-preserved c =

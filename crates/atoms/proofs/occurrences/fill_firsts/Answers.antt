@@ -1,5 +1,4 @@
 use Prim.Native.Nat.{ℕ, ◌<◌}
-use mathlib.Core.Path.{refl}
 use native.Mathlib.Omega.{arith}
 use lib.ListN.{length-set}
 use Rattle.deck.specs.Content.{deck_of}
@@ -7,18 +6,6 @@ use Rattle.atoms.specs.Floor.{required_atoms}
 use Rattle.atoms.specs.Occurrences.{IsFirst}
 use Rattle.atoms.proofs.OccurrenceLaws.{table_more}
 use Rattle.atoms.proofs.occurrences.fill_firsts.Goals as goal
-
-pub loop-k-init : goal.loop-k-init
-loop-k-init c =
-    (refl, λ (k : ℕ) (b : k < 0). absurd (omega arith))
-
-pub first_entry-requires : goal.first_entry-requires
-first_entry-requires c =
-    let w = c.loop-k in record { concept_bound = omega (arith, c.requires.count_bound); concept_in_bounds = omega (arith, w.invariant.0, c.requires.count_in_bounds); firsts_to = w.invariant.1 }
-
-pub bounds-table-k : goal.bounds-table-k
-bounds-table-k c =
-    omega (arith, c.loop-k.invariant.0, c.requires.count_in_bounds)
 
 pub loop-k-preserved : goal.loop-k-preserved
 loop-k-preserved c =

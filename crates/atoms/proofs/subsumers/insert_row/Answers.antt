@@ -1,17 +1,9 @@
-use mathlib.Core.Path.{refl, sym, ◌∙◌}
+use mathlib.Core.Path.{sym, ◌∙◌}
 use native.Mathlib.Omega.{arith}
 use Rattle.deck.specs.Reads.{list_of}
 use Rattle.deck.proofs.TableLaws.{list_length}
 use Rattle.atoms.proofs.ListWalks.{insert-end, insert-step}
 use Rattle.atoms.proofs.subsumers.insert_row.Goals as goal
-
-pub loop-i-init : goal.loop-i-init
-loop-i-init c =
-    (refl, refl)
-
-pub item-requires : goal.item-requires
-item-requires c =
-    record { within = c.requires.list_fits.within; i_lt_count = omega arith }
 
 pub insert-requires : goal.insert-requires
 insert-requires c =

@@ -9,10 +9,6 @@ pub returns-then-holds_range : goal.returns-then-holds_range
 returns-then-holds_range c =
     record { value = target_row _ _ _ (sym c.holds_range.ensures ∙ c.if-holds_range.true); target_fits = c.requires.y_bound }
 
-pub injected_target-requires : goal.injected_target-requires
-injected_target-requires c =
-    record { real_class = c.injected_class.ensures.fits }
-
 pub returns : goal.returns
 returns c =
     let D = deck_of c.args.deck.now.bytes.now in
