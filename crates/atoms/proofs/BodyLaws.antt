@@ -33,21 +33,23 @@ use Rattle.atoms.proofs.MemberLaws.{or_assoc}
 use Rattle.atoms.proofs.LabelLaws.{length-insert-all, insert-all-append}
 
 -- ---- one more atom
--- by the label t of its target; j becomes z
-module _ (D : Deck) (r a : ℕ) {t : Target} (p : t ≡ target_of D a r) (l g : List ℕ) (j : Atoms) {z : Atoms} (f : z ≡ met a j) where
+-- by its target t; j becomes z
+module _ (D : Deck) (r a : ℕ) {t : Target} (p : t ≡ target_of D a r) (l g : List ℕ) (j : Atoms) {z : Atoms} (f : z ≡ met a j) {l' : List ℕ} (e : l' ≡ insert_all l (atom_row D r a)) where
   joined_by : (v : Target) → t ≡ v → join_by D a v (body l g j) ≡ join_atom D r a (body l g j)
   unfolding join_atom
   joined_by v q = ap (λ (t : Target). join_by D a t (body l g j)) (sym q ∙ p)
 
-  pub joined-row : (k : ClassId) → t ≡ Row k → {l' : List ℕ} → l' ≡ insert_all l (row_of_class D k.0) → body l' g z ≡ join_atom D r a (body l g j)
-  joined-row k q e = rw (e, f) (joined_by (Row k) q)
+  label-by-row : (v : Target) → t ≡ v → l' ≡ insert_all l (row_by D a v)
+  label-by-row v q = e ∙ ap (λ (t : Target). insert_all l (row_by D a t)) (sym p ∙ q)
 
-  pub joined-delta : (k : ClassId) → t ≡ Delta k → {l' : List ℕ} → l' ≡ insert_all l (row_of_class D k.0) → {g' : List ℕ} {n : ℕ} → g' ≡ noted g z.reasons (run_delta a) → n ≡ counted z.reasons
-      → body l' g' (record { first = z.first; unclosed = z.unclosed; reasons = n }) ≡ join_atom D r a (body l g j)
-  joined-delta k q e u v = rw (e, u, v, f) (joined_by (Delta k) q)
+  pub joined-row : (k : ClassId) → t ≡ Row k → body l' g z ≡ join_atom D r a (body l g j)
+  joined-row k q = rw (label-by-row (Row k) q, f) (joined_by (Row k) q)
 
-  pub joined-open : t ≡ NotClosed → {l' : List ℕ} → l' ≡ insert_all l (row_of_class D a) → body l' g (record { first = z.first; unclosed = true; reasons = z.reasons }) ≡ join_atom D r a (body l g j)
-  joined-open q e = rw (e, f) (joined_by NotClosed q)
+  pub joined-delta : (k : ClassId) → t ≡ Delta k → {g' : List ℕ} {n : ℕ} → g' ≡ noted g z.reasons (run_delta a) → n ≡ counted z.reasons → body l' g' (record { first = z.first; unclosed = z.unclosed; reasons = n }) ≡ join_atom D r a (body l g j)
+  joined-delta k q u v = rw (label-by-row (Delta k) q, u, v, f) (joined_by (Delta k) q)
+
+  pub joined-open : t ≡ NotClosed → body l' g (record { first = z.first; unclosed = true; reasons = z.reasons }) ≡ join_atom D r a (body l g j)
+  joined-open q = rw (label-by-row NotClosed q, f) (joined_by NotClosed q)
 
 -- ---- the atoms of a concept that was read
 module _ (s : List ℕ) (A : IsAccepted s) (c : ℕ) {expr : ConceptExpr} (R : ConceptRead s c expr) (r : ℕ) (b : Body) where

@@ -30,7 +30,7 @@ use Rattle.atoms.specs.Floor.{required_atoms}
 use Rattle.atoms.specs.Leaves.{leaves, IsLeaf, pending, Same, Next}
 use Rattle.atoms.specs.Reasons.{noted, counted, Log, note, label_not_closed}
 use Rattle.atoms.specs.Target.{target_of}
-use Rattle.atoms.specs.Body.{Joined, row_of_class, body_of, row_by, delta_by, open_by, atom_row, atom_delta, atom_open, classes_of, reasons_of}
+use Rattle.atoms.specs.Body.{Joined, row_of_class, body_of, delta_by, atom_row, atom_delta, atom_open, classes_of, reasons_of}
 use Rattle.atoms.specs.Occurrences.{logs, deltas_of, noted_deltas, IsFirst}
 use Rattle.atoms.specs.Large.{delta_from, Gathered, seen_as, gathered, is_any, atom_gives, took, SeenOf, noted_all}
 use Rattle.atoms.proofs.LabelLaws.{insert-all-append}
@@ -84,20 +84,12 @@ module _ (D : Deck) (r : ℕ) where
       same_parts (insert-same s.label (flat_map (atom_row D r) xs) (flat_map (atom_row D r) ys) (flat-members (atom_row D r) xs ys S)) (ap (λ (b : Bool). s.seen.found || b) (any_same is_any xs ys S))
       (ap (λ (b : Bool). s.seen.unclosed || b) (any_same (atom_open D r) xs ys S)) (ap (λ (b : Bool). s.seen.delta || b) (any_same (atom_gives D r) xs ys S))
 
-  -- one atom, by the label t of its target
-  module _ (a : ℕ) {t : Target} (p : t ≡ target_of D a r) (l : List ℕ) (z : Seen) where
-    took_by : (v : Target) → t ≡ v → gathered (insert_all l (row_by D a v ++ [])) (seen_as (z.found || true) (z.unclosed || (open_by v || false)) (z.delta || (delta_from v || false))) ≡ took D r (a ∷ []) (gathered l z)
-    unfolding took flat_map any
-    took_by v q = ap (λ (t : Target). gathered (insert_all l (row_by D a t ++ [])) (seen_as (z.found || true) (z.unclosed || (open_by t || false)) (z.delta || (delta_from t || false)))) (sym q ∙ p)
-
-    pub took-row : (k : ClassId) → t ≡ Row k → {l' : List ℕ} → l' ≡ insert_all l (row_of_class D k.0) → gathered l' (seen_as true z.unclosed z.delta) ≡ took D r (a ∷ []) (gathered l z)
-    took-row k q e = same_parts (e ∙ ap (insert_all l) (sym (append-nil (row_of_class D k.0)))) (sym (or-true z.found)) (sym (or-false z.unclosed)) (sym (or-false z.delta)) ∙ took_by (Row k) q
-
-    pub took-delta : (k : ClassId) → t ≡ Delta k → {l' : List ℕ} → l' ≡ insert_all l (row_of_class D k.0) → gathered l' (seen_as true z.unclosed true) ≡ took D r (a ∷ []) (gathered l z)
-    took-delta k q e = same_parts (e ∙ ap (insert_all l) (sym (append-nil (row_of_class D k.0)))) (sym (or-true z.found)) (sym (or-false z.unclosed)) (sym (or-true z.delta)) ∙ took_by (Delta k) q
-
-    pub took-open : t ≡ NotClosed → {l' : List ℕ} → l' ≡ insert_all l (row_of_class D a) → gathered l' (seen_as true true z.delta) ≡ took D r (a ∷ []) (gathered l z)
-    took-open q e = same_parts (e ∙ ap (insert_all l) (sym (append-nil (row_of_class D a)))) (sym (or-true z.found)) (sym (or-true z.unclosed)) (sym (or-false z.delta)) ∙ took_by NotClosed q
+  -- one atom
+  pub took-one : (a : ℕ) (l : List ℕ) (z : Seen) {l' : List ℕ} {u d : Bool} → l' ≡ insert_all l (atom_row D r a) → u ≡ (z.unclosed || atom_open D r a) → d ≡ (z.delta || atom_gives D r a) → gathered l' (seen_as true u d) ≡ took D r (a ∷ []) (gathered l z)
+  unfolding took flat_map any
+  took-one a l z e p q =
+      same_parts (e ∙ ap (insert_all l) (sym (append-nil (atom_row D r a)))) (sym (or-true z.found)) (p ∙ ap (λ (b : Bool). z.unclosed || b) (sym (or-false (atom_open D r a))))
+      (q ∙ ap (λ (b : Bool). z.delta || b) (sym (or-false (atom_gives D r a))))
 
 -- ---- a concept that is no And
 module _ (s : List ℕ) (A : IsAccepted s) (c : ℕ) {expr : ConceptExpr} (R : ConceptRead s c expr) (r : ℕ) (g : Gathered) where

@@ -14,7 +14,7 @@ use crate::large::body_large;
 use crate::lists::operand;
 use crate::reasons::{Reason, note};
 use crate::subsumers::insert_subsumers;
-use crate::target_label::{Target, target_label};
+use crate::target_label::{Target, join_target};
 use crate::visits::visits;
 use deck::Deck;
 use deck::concepts::ConceptExpr;
@@ -56,23 +56,16 @@ fn join_atom(
     ensures { body label.new log.new result ≡ join_atom (content deck.now) r.0 a.0 (body label.old log.old j) }
 {
     let met = j.with(a);
-    match target_label(deck, a, r) {
-        Target::Row(class) => {
-            insert_subsumers(deck, class, label);
-            met
-        }
-        Target::Delta(class) => {
-            insert_subsumers(deck, class, label);
+    match join_target(deck, r, a, label) {
+        Target::Row(_) => met,
+        Target::Delta(_) => {
             let reasons = note(log, met.reasons, Reason::RunDelta(a));
             Atoms { reasons, ..met }
         }
-        Target::NotClosed => {
-            insert_subsumers(deck, a, label);
-            Atoms {
-                unclosed: true,
-                ..met
-            }
-        }
+        Target::NotClosed => Atoms {
+            unclosed: true,
+            ..met
+        },
     }
 }
 

@@ -17,8 +17,7 @@ use crate::labels::insert_bit;
 use crate::marks::next_leaf;
 use crate::occurrences::{fill_deltas, fill_firsts, note_deltas};
 use crate::reasons::{Reason, note};
-use crate::subsumers::insert_subsumers;
-use crate::target_label::{Target, target_label};
+use crate::target_label::join_target;
 use deck::Deck;
 use deck::concepts::ConceptExpr;
 use deck::numbers::{ClassId, ConceptId, RoleId};
@@ -38,30 +37,11 @@ fn join_by(deck: &Deck, r: RoleId, a: ClassId, label: &mut [u64], seen: Seen) ->
     requires label_len { length label.old ≡ label_width (content deck.now) }
     ensures { gathered label.new result ≡ took (content deck.now) r.0 (a.0 ∷ []) (gathered label.old seen) }
 {
-    match target_label(deck, a, r) {
-        Target::Row(class) => {
-            insert_subsumers(deck, class, label);
-            Seen {
-                found: true,
-                ..seen
-            }
-        }
-        Target::Delta(class) => {
-            insert_subsumers(deck, class, label);
-            Seen {
-                found: true,
-                delta: true,
-                ..seen
-            }
-        }
-        Target::NotClosed => {
-            insert_subsumers(deck, a, label);
-            Seen {
-                found: true,
-                unclosed: true,
-                ..seen
-            }
-        }
+    let target = join_target(deck, r, a, label);
+    Seen {
+        found: true,
+        unclosed: seen.unclosed | target.is_open(),
+        delta: seen.delta | target.is_delta(),
     }
 }
 

@@ -23,9 +23,9 @@ pub join_operands_atoms-loop-i-preserved : goal.join_operands_atoms-loop-i-prese
 join_operands_atoms-loop-i-preserved t c =
     let l = c.args.list in
     let w = c.loop-i in
-    (omega (arith, c.join_atoms-held.auto.label, w.invariant.0), omega (arith, c.join_atoms-held.auto.log, w.invariant.1), w.invariant.2 ∙ walk_step 0 _ (list_of c.args.deck.now.bytes.now l) w.i _ (omega (arith, list_length c.args.deck.now.bytes.now l.start l.count)) (rw c.operand.ensures.is at c.join_atoms-held.ensures))
+    w.invariant ∙ walk_step 0 _ (list_of c.args.deck.now.bytes.now l) w.i _ (omega (arith, list_length c.args.deck.now.bytes.now l.start l.count)) (rw c.operand.ensures.is at c.join_atoms-held.ensures)
 
 pub join_operands_atoms-returns : goal.join_operands_atoms-returns
 join_operands_atoms-returns t c =
     let l = c.args.list in
-    walk_end 0 _ (list_of c.args.deck.now.bytes.now l) c.loop-i.i _ (omega (arith, list_length c.args.deck.now.bytes.now l.start l.count)) ∙ sym c.loop-i.invariant.2
+    walk_end 0 _ (list_of c.args.deck.now.bytes.now l) c.loop-i.i _ (omega (arith, list_length c.args.deck.now.bytes.now l.start l.count)) ∙ sym c.loop-i.invariant

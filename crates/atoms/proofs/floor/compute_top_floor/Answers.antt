@@ -10,9 +10,9 @@ use Rattle.atoms.proofs.floor.compute_top_floor.Goals as goal
 pub loop-i-preserved : goal.loop-i-preserved
 loop-i-preserved c =
     let w = c.loop-i in
-    (omega (arith, c.join_axiom.auto.label, w.invariant.0), w.invariant.1 ∙ taken_step (Axiom.DeclareClass 0) (deck_of c.args.deck.now.bytes.now).axioms w.i _ w.floor (omega (arith, c.axiom_count-i-end.ensures.is)) c.join_axiom.ensures)
+    w.invariant ∙ taken_step (Axiom.DeclareClass 0) (deck_of c.args.deck.now.bytes.now).axioms w.i _ w.floor (omega (arith, c.axiom_count-i-end.ensures.is)) c.join_axiom.ensures
 
 pub returns : goal.returns
 unfolding floor_label label_of
 returns c =
-    taken-end (Axiom.DeclareClass 0) (deck_of c.args.deck.now.bytes.now).axioms c.loop-i.i _ _ (omega (arith, c.axiom_count-i-end.ensures.is)) ∙ sym c.loop-i.invariant.1 ∙ rw (c.clear.ensures, c.requires.floor_len)
+    taken-end (Axiom.DeclareClass 0) (deck_of c.args.deck.now.bytes.now).axioms c.loop-i.i _ _ (omega (arith, c.axiom_count-i-end.ensures.is)) ∙ sym c.loop-i.invariant ∙ rw (c.clear.ensures, c.requires.floor_len)

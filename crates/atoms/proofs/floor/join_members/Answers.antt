@@ -9,9 +9,9 @@ pub loop-i-preserved : goal.loop-i-preserved
 loop-i-preserved c =
     let l = c.args.list in
     let w = c.loop-i in
-    (omega (arith, c.join_member.auto.label, w.invariant.0), w.invariant.1 ∙ taken_step 0 (list_of c.args.deck.now.bytes.now l) w.i _ w.label (omega (arith, list_length c.args.deck.now.bytes.now l.start l.count)) (rw c.member.ensures.is at c.join_member.ensures))
+    w.invariant ∙ taken_step 0 (list_of c.args.deck.now.bytes.now l) w.i _ w.label (omega (arith, list_length c.args.deck.now.bytes.now l.start l.count)) (rw c.member.ensures.is at c.join_member.ensures)
 
 pub returns : goal.returns
 returns c =
     let l = c.args.list in
-    taken-end 0 (list_of c.args.deck.now.bytes.now l) c.loop-i.i _ _ (omega (arith, list_length c.args.deck.now.bytes.now l.start l.count)) ∙ sym c.loop-i.invariant.1
+    taken-end 0 (list_of c.args.deck.now.bytes.now l) c.loop-i.i _ _ (omega (arith, list_length c.args.deck.now.bytes.now l.start l.count)) ∙ sym c.loop-i.invariant

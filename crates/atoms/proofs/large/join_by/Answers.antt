@@ -1,14 +1,12 @@
-use Rattle.atoms.proofs.LargeLaws.{took-row, took-delta, took-open}
+use mathlib.Core.Bool.{Bool, ◌||◌}
+use mathlib.Core.Path.{ap, ◌∙◌}
+use Rattle.atoms.specs.Body.{open_by}
+use Rattle.atoms.specs.Large.{delta_from}
+use Rattle.atoms.proofs.LargeLaws.{took-one}
 use Rattle.atoms.proofs.large.join_by.Goals as goal
 
-pub returns-in-Row : goal.returns-in-Row
-returns-in-Row c =
-    took-row _ _ _ c.target_label.ensures.value _ _ _ c.in-Row.is c.insert_subsumers.ensures
-
-pub returns-in-Delta : goal.returns-in-Delta
-returns-in-Delta c =
-    took-delta _ _ _ c.target_label.ensures.value _ _ _ c.in-Delta.is c.insert_subsumers-in-Delta.ensures
-
-pub returns-in-NotClosed : goal.returns-in-NotClosed
-returns-in-NotClosed c =
-    took-open _ _ _ c.target_label.ensures.value _ _ c.in-NotClosed.is c.insert_subsumers-in-NotClosed.ensures
+pub returns : goal.returns
+returns c =
+    let z = c.args.seen in
+    let t = c.join_target-target.ensures.value in
+    took-one _ _ c.args.a.0 _ z c.join_target-target.ensures.taken (ap (λ (b : Bool). z.unclosed || b) (c.is_open.ensures ∙ ap open_by t)) (ap (λ (b : Bool). z.delta || b) (c.is_delta.ensures ∙ ap delta_from t))

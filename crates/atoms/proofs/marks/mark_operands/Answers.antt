@@ -9,9 +9,9 @@ pub loop-i-preserved : goal.loop-i-preserved
 loop-i-preserved c =
     let r = c.args.list in
     let w = c.loop-i in
-    (omega (arith, c.insert_bit.auto.words, w.invariant.0), w.invariant.1 ∙ insert-step (list_of c.args.deck.now.bytes.now r) w.i w.marks (omega (arith, list_length c.args.deck.now.bytes.now r.start r.count)) (rw c.operand.ensures.is at c.insert_bit.ensures))
+    w.invariant ∙ insert-step (list_of c.args.deck.now.bytes.now r) w.i w.marks (omega (arith, list_length c.args.deck.now.bytes.now r.start r.count)) (rw c.operand.ensures.is at c.insert_bit.ensures)
 
 pub returns : goal.returns
 returns c =
     let r = c.args.list in
-    insert-end (list_of c.args.deck.now.bytes.now r) c.loop-i.i _ (omega (arith, list_length c.args.deck.now.bytes.now r.start r.count)) ∙ sym c.loop-i.invariant.1
+    insert-end (list_of c.args.deck.now.bytes.now r) c.loop-i.i _ (omega (arith, list_length c.args.deck.now.bytes.now r.start r.count)) ∙ sym c.loop-i.invariant

@@ -33,9 +33,9 @@ pub note_operands-loop-i-preserved : goal.note_operands-loop-i-preserved
 note_operands-loop-i-preserved t c =
     let l = c.args.list in
     let w = c.loop-i in
-    (omega (arith, c.note_deltas-held.auto.log, w.invariant.0), w.invariant.1 ∙ walk_step 0 _ (list_of c.args.deck.now.bytes.now l) w.i _ (omega (arith, list_length c.args.deck.now.bytes.now l.start l.count)) (rw c.operand.ensures.is at c.note_deltas-held.ensures))
+    w.invariant ∙ walk_step 0 _ (list_of c.args.deck.now.bytes.now l) w.i _ (omega (arith, list_length c.args.deck.now.bytes.now l.start l.count)) (rw c.operand.ensures.is at c.note_deltas-held.ensures)
 
 pub note_operands-returns : goal.note_operands-returns
 note_operands-returns t c =
     let l = c.args.list in
-    walk_end 0 _ (list_of c.args.deck.now.bytes.now l) c.loop-i.i _ (omega (arith, list_length c.args.deck.now.bytes.now l.start l.count)) ∙ sym c.loop-i.invariant.1
+    walk_end 0 _ (list_of c.args.deck.now.bytes.now l) c.loop-i.i _ (omega (arith, list_length c.args.deck.now.bytes.now l.start l.count)) ∙ sym c.loop-i.invariant

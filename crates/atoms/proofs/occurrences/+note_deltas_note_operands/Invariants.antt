@@ -1,5 +1,5 @@
 use mathlib.Core.Path.{◌≡◌}
-use lib.ListN.{length, drop}
+use lib.ListN.{drop}
 use Rattle.deck.specs.Content.{deck_of}
 use Rattle.deck.specs.Reads.{list_of}
 use Rattle.atoms.specs.Walk.{walk}
@@ -14,4 +14,4 @@ abbrev pub decreases-note_operands : goal.decreases-note_operands
 decreases-note_operands l = l.owner.0 * 2
 
 abbrev pub invariant-note_operands-loop-i : goal.invariant-note_operands-loop-i
-invariant-note_operands-loop-i l = (length l.log ≡ length l.initial.log) × (walk (noted_deltas (deck_of l.deck.bytes.now) l.r.0) (list_of l.deck.bytes.now l.list) (logs l.initial.log l.total) ≡ walk (noted_deltas (deck_of l.deck.bytes.now) l.r.0) (drop l.i (list_of l.deck.bytes.now l.list)) (logs l.log l.held))
+invariant-note_operands-loop-i l = walk (noted_deltas (deck_of l.deck.bytes.now) l.r.0) (list_of l.deck.bytes.now l.list) (logs l.initial.log l.total) ≡ walk (noted_deltas (deck_of l.deck.bytes.now) l.r.0) (drop l.i (list_of l.deck.bytes.now l.list)) (logs l.log l.held)

@@ -9,15 +9,15 @@ pub insert-requires : goal.insert-requires
 insert-requires c =
     let r = c.args.row in
     let b = c.requires.list_fits.below c.loop-i.i (omega (arith, list_length c.args.deck.now.bytes.now r.start r.count)) in
-    omega (arith, b, c.item.ensures, c.requires.label_len, c.loop-i.invariant.0)
+    omega (arith, b, c.item.ensures, c.requires.label_len, c.loop-i.auto.label)
 
 pub loop-i-preserved : goal.loop-i-preserved
 loop-i-preserved c =
     let r = c.args.row in
     let w = c.loop-i in
-    (omega (arith, c.insert.auto.label, w.invariant.0), w.invariant.1 ∙ insert-step (list_of c.args.deck.now.bytes.now r) w.i w.label (omega (arith, list_length c.args.deck.now.bytes.now r.start r.count)) (rw c.item.ensures at c.insert.ensures))
+    w.invariant ∙ insert-step (list_of c.args.deck.now.bytes.now r) w.i w.label (omega (arith, list_length c.args.deck.now.bytes.now r.start r.count)) (rw c.item.ensures at c.insert.ensures)
 
 pub returns : goal.returns
 returns c =
     let r = c.args.row in
-    insert-end (list_of c.args.deck.now.bytes.now r) c.loop-i.i _ (omega (arith, list_length c.args.deck.now.bytes.now r.start r.count)) ∙ sym c.loop-i.invariant.1
+    insert-end (list_of c.args.deck.now.bytes.now r) c.loop-i.i _ (omega (arith, list_length c.args.deck.now.bytes.now r.start r.count)) ∙ sym c.loop-i.invariant
