@@ -2,10 +2,9 @@
 ghost use Rattle.std.specs.Prelude.{◌≡◌};
 ghost use Rattle.deck.specs.Refusal.{number_of, fault_word};
 
+use crate::numbers::WordIndex;
 use std::error::Error;
 use std::fmt;
-
-use crate::numbers::WordIndex;
 
 // The thirteen refusals. Document 01 calls them, in order: short copy, wrong edition, overset,
 // bad imposition, turned sort, circular copy, bad measure, short galley, foreign structure,

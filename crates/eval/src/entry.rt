@@ -16,10 +16,10 @@ use crate::judgement::Judgement;
 use crate::shape::Shape;
 use crate::verdict::Verdict;
 use deck::axioms::axiom_count;
+use deck::check_deck;
 use deck::concepts::concept_count;
 use deck::numbers::{ConceptId, Element};
 use deck::refusal::Refusal;
-use deck::check_deck;
 
 // Are the deck and the lent structure in order? If not, the first refusal.
 fn lent_answer(deck: &[u8], labels: &[u64], edges: &[[u32; 3]], shape: Shape) -> Result<(), Refusal>

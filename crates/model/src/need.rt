@@ -7,9 +7,9 @@ ghost use Rattle.model.specs.Run.{bounds_fit, room_fits, run_refusal};
 
 use build::bounds::Bounds;
 use deck::axioms::axiom_count;
+use deck::check_deck;
 use deck::classes::class_count;
 use deck::refusal::Refusal;
-use deck::check_deck;
 use eval::labels::label_width;
 
 fn bounds_fit(bounds: Bounds, last_phase: u32) -> bool

@@ -84,7 +84,12 @@ fn put_axioms(buf: &mut [u8], at: usize, verdicts: &[u32], axioms: u32) -> usize
 }
 
 // The text of a run's answer; a run that is done has accepted the deck and had room for the verdicts.
-fn put_answer(buf: &mut [u8], deck: &[u8], verdicts: &[u32], answer: Result<(Outcome, Tally), Refusal>) -> usize
+fn put_answer(
+    buf: &mut [u8],
+    deck: &[u8],
+    verdicts: &[u32],
+    answer: Result<(Outcome, Tally), Refusal>,
+) -> usize
     requires in_bounds { 204864 ≤ length buf.old }
     requires verdicts_len_bound { length verdicts.now ≤ 16384 }
     requires accepted { (outcome : Outcome) (t : Tally) → answer ≡ Ok (outcome, t) → IsAccepted deck.now × (4 * axiom_count (deck_of deck.now) ≤ length verdicts.now) }
