@@ -12,8 +12,8 @@ ghost use Rattle.build.specs.Seed.{ends_of, Named, is_seeded, row_label, Seeded}
 
 use crate::intern::Interned;
 use crate::prints::intern_by;
-use atoms::labels;
 use atoms::bytes::load_row;
+use atoms::labels;
 use deck::classes::{class_count, is_unsatisfiable, real_count};
 use deck::facts::{fact_at, fact_count};
 use deck::numbers::ClassId;
