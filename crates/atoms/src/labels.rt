@@ -88,7 +88,7 @@ pub fn join(label: &mut [u64], other: &[u64])
     }
 }
 
-// The place after k, or the first of the next word where no bit is left in this one.
+// The place after k, or the first of the next word where no bit is left in this one: a place, and so no Option.
 pub fn after(rest: u64, k: u32) -> u32
     requires { k < 65536 }
     ensures { result ≡ cond (eqb rest 0) ((k / 64 + 1) * 64) (k + 1) }

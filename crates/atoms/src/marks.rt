@@ -13,7 +13,7 @@ use deck::concepts::ConceptExpr;
 use deck::numbers::ConceptId;
 use deck::rows::Span;
 
-// The highest mark below i: word by word where a word is empty.
+// The highest mark below i: word by word where a word is empty, so in a loop of its own.
 fn highest_mark(marks: &[u64], i: u32) -> Option<ConceptId>
     requires i_in_bounds { i ≤ length marks.now * 64 }
     ensures { result ≡ highest_mark marks.now i }

@@ -89,7 +89,7 @@ pub fn has_room(log: &[u32], total: u32) -> bool
     total < u32::MAX && (total as usize) < log.len() / 3
 }
 
-// One more reason, where `total` were given; the new total.
+// One more reason, where `total` were given; the new total. A struct of both would hold a `&mut`, and every function that takes it would have to say that it stays the same one.
 pub fn note(log: &mut [u32], total: u32, r: Reason) -> u32
     ensures { (log.new ≡ noted log.old total r) × (result ≡ counted total) }
 {

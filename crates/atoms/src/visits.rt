@@ -22,7 +22,7 @@ fn is_end(deck: &Deck, concept: ConceptId, deep: bool) -> bool
     }
 }
 
-// What is left of `left` visits after a walk of the concept through its Ands, and where `deep` through the bodies of its Somes with a named role. A concept met twice is walked twice; where nothing is left the walk stops.
+// What is left of `left` visits after a walk of the concept through its Ands, and where `deep` through the bodies of its Somes with a named role. A concept met twice is walked twice; where nothing is left, 0, the walk stops.
 #[cycle(visits_visits_all)]
 pub fn visits(deck: &Deck, concept: ConceptId, deep: bool, left: u32) -> u32
     requires concept_bound { concept.0 < concept_count (content deck.now) }
