@@ -157,8 +157,8 @@ module _ (D : Deck) (f : ℕ → List ℕ) where
   abbrev takes : List ℕ → List ℕ → ℕ → List ℕ
   takes label marks i = insert_all label (flat_map f (pending D marks i))
 
-  pub takes-start : (label l : List ℕ) {was : List ℕ} {i : ℕ} → Same (flat_map (leaves D) l) (pending D was i) → insert_all label (flat_map (λ o. flat_map f (leaves D o)) l) ≡ takes label was i
-  takes-start label l {was} {i} S =
+  pub takes-start : (label l was : List ℕ) (i : ℕ) → Same (flat_map (leaves D) l) (pending D was i) → insert_all label (flat_map (λ o. flat_map f (leaves D o)) l) ≡ takes label was i
+  takes-start label l was i S =
       ap (insert_all label) (sym (flat-flat f (leaves D) l)) ∙ insert-same label (flat_map f (flat_map (leaves D) l)) (flat_map f (pending D was i)) (flat-members f (flat_map (leaves D) l) (pending D was i) S)
 
   module _ (label : List ℕ) {was : List ℕ} {i : ℕ} {marks : List ℕ} where

@@ -107,9 +107,9 @@ module _ (D : Deck) (r : ℕ) where
   coming_same : (xs ys : List ℕ) → Same xs ys → (s : Gathered) → took D r (flat_map (required_atoms D) xs) s ≡ took D r (flat_map (required_atoms D) ys) s
   coming_same xs ys S = took-same D r (flat_map (required_atoms D) xs) (flat_map (required_atoms D) ys) (flat-members (required_atoms D) xs ys S)
 
-  pub coming-start : Sound D → (c : ℕ) {was : List ℕ} {i : ℕ} → Same (flat_map (leaves D) (c ∷ [])) (pending D was i) → (s : Gathered) → took D r (required_atoms D c) s ≡ coming was i s
+  pub coming-start : Sound D → (c : ℕ) (was : List ℕ) (i : ℕ) → Same (flat_map (leaves D) (c ∷ [])) (pending D was i) → (s : Gathered) → took D r (required_atoms D c) s ≡ coming was i s
   unfolding flat_map
-  coming-start W c {was} {i} S s =
+  coming-start W c was i S s =
       ap (λ (ks : List ℕ). took D r ks s) (atoms-leaves D W c ∙ ap (flat_map (required_atoms D)) (sym (append-nil (leaves D c))))
       ∙ coming_same (leaves D c ++ []) (pending D was i) S s
 

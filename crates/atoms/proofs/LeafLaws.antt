@@ -561,9 +561,9 @@ module _ (D : Deck) where
     asks-end N = every-same p (pending D was i) [] N.same
 
   -- what a walk begins with
-  pub asks-start : (q : Question) (l : List ℕ) {was : List ℕ} {i : ℕ} → Same (flat_map (leaves D) l) (pending D was i) → every (map (every_leaf D q) l) ≡ asks (answer D q) was i
+  pub asks-start : (q : Question) (l was : List ℕ) (i : ℕ) → Same (flat_map (leaves D) l) (pending D was i) → every (map (every_leaf D q) l) ≡ asks (answer D q) was i
   unfolding every_leaf
-  asks-start q l S = sym (every-flat (answer D q) (leaves D) l) ∙ every-same (answer D q) _ _ S
+  asks-start q l was i S = sym (every-flat (answer D q) (leaves D) l) ∙ every-same (answer D q) _ _ S
 
   -- the operands from one on
   pub dropped-below : (n first : ℕ) (l : List ℕ) → ((j : ℕ) → j < length l → get_or l j 0 < n) → (j : ℕ) → j < length (drop first l) → get_or (drop first l) j 0 < n

@@ -6,14 +6,10 @@ use Rattle.deck.specs.declared.numbers.ConceptId.{ConceptId}
 use Rattle.atoms.specs.declared.marks.Leaves.{Leaves}
 use Rattle.atoms.specs.Leaves.{leaves, pending, Same, Next}
 
--- what it has before it
-abbrev pub ahead : Leaves → List ℕ
-ahead s = pending (deck_of s.deck.bytes.now) s.marks s.below
-
 -- it begins with all that a list of concepts leads to, in the deck of these bytes
 pub record Begun (bytes l : List ℕ) (s : Leaves) : Type 0 where
   pub deck : s.deck.bytes.now ≡ bytes
-  pub same : Same (flat_map (leaves (deck_of bytes)) l) (ahead s)
+  pub same : Same (flat_map (leaves (deck_of bytes)) l) (pending (deck_of bytes) s.marks s.below)
 
 -- one step
 pub record Stepped (s : Leaves) (next : Option ConceptId) (t : Leaves) : Type 0 where

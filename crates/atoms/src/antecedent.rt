@@ -27,6 +27,7 @@ fn has_atom(deck: &Deck, concept: ConceptId) -> bool
 }
 
 // Is the concept a rule's antecedent?
+#[inline(always)]
 pub fn is_rule(deck: &Deck, concept: ConceptId) -> bool
     requires concept_bound { concept.0 < concept_count (content deck.now) }
     ensures { result ≡ is_rule (content deck.now) concept.0 }
@@ -35,6 +36,7 @@ pub fn is_rule(deck: &Deck, concept: ConceptId) -> bool
 }
 
 // Does a rule with this antecedent fire at an element of this label? The atoms come first: they are what mostly fails.
+#[inline(always)]
 pub fn fires(deck: &Deck, label: &[u64], ante: ConceptId) -> bool
     requires ante_bound { ante.0 < concept_count (content deck.now) }
     ensures { result ≡ (holds_atoms (content deck.now) label.now ante.0 && is_rule (content deck.now) ante.0) }

@@ -75,6 +75,7 @@ pub fn compute_top_floor(deck: &[u8], floor: &mut [u64])
     floor::compute_top_floor(&Deck { bytes: deck }, floor);
 }
 
+#[inline(always)]
 pub fn fires(deck: &[u8], labels: &[u64], elements: u32, e: Element, ante: ConceptId) -> bool
     requires accepted { IsAccepted deck.now }
     requires deck_in_bounds { elements * label_width (deck_of deck.now) ≤ length labels.now }

@@ -12,9 +12,10 @@ ghost use Rattle.atoms.specs.Leaves.{IsLeaf};
 ghost use Rattle.atoms.specs.Floor.{universal, atom_rows, member_rows, floor_of, floor_label, has_real, floored};
 
 use crate::labels;
-use crate::leaves::{Question, every_leaf, is_and};
+use crate::leaves::{Question, is_and};
 use crate::lists::{member, operand};
 use crate::marks::Leaves;
+use crate::short::answer_soon;
 use crate::subsumers::insert_satisfiable;
 use deck::Deck;
 use deck::concepts::ConceptExpr;
@@ -22,11 +23,12 @@ use deck::numbers::ConceptId;
 use deck::rows::Span;
 
 // Is the concept universal?
+#[inline(always)]
 pub fn is_universal_antecedent(deck: &Deck, concept: ConceptId) -> bool
     requires concept_bound { concept.0 < concept_count (content deck.now) }
     ensures { result ≡ universal (content deck.now) concept.0 }
 {
-    every_leaf(deck, &Question::Universal, concept)
+    answer_soon(deck, &Question::Universal, concept)
 }
 
 // The label takes the row of a concept that is a satisfiable atom in.

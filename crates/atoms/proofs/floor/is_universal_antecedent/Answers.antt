@@ -5,4 +5,4 @@ use Rattle.atoms.proofs.floor.is_universal_antecedent.Goals as goal
 
 pub returns : goal.returns
 returns c =
-    c.every_leaf.ensures ∙ sym (universal-leaves _ (sound _ c.args.deck.now.accepted) c.args.concept.0)
+    c.answer_soon.ensures ∙ sym (universal-leaves _ (sound _ c.args.deck.now.accepted) c.args.concept.0)
