@@ -27,7 +27,6 @@ fn has_atom(deck: &Deck, concept: ConceptId) -> bool
 }
 
 // Is the concept a rule's antecedent?
-#[inline(always)]
 pub fn is_rule(deck: &Deck, concept: ConceptId) -> bool
     requires concept_bound { concept.0 < concept_count (content deck.now) }
     ensures { result ≡ is_rule (content deck.now) concept.0 }

@@ -23,7 +23,6 @@ use deck::numbers::ConceptId;
 use deck::rows::Span;
 
 // Is the concept universal?
-#[inline(always)]
 pub fn is_universal_antecedent(deck: &Deck, concept: ConceptId) -> bool
     requires concept_bound { concept.0 < concept_count (content deck.now) }
     ensures { result ≡ universal (content deck.now) concept.0 }

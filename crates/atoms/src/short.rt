@@ -68,6 +68,7 @@ fn walk_operands(
 }
 
 // Does all that the concept's Ands lead to answer yes? By a walk of at most 64 concepts, and else as `every_leaf` does it.
+#[inline(always)]
 fn answer_walked(deck: &Deck, question: &Question, concept: ConceptId) -> bool
     requires concept_bound { concept.0 < concept_count (content deck.now) }
     ensures { result ≡ every_leaf (content deck.now) question.now concept.0 }
