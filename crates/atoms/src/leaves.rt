@@ -75,13 +75,7 @@ pub fn leaf_answer(deck: &Deck, question: &Question, concept: ConceptId) -> bool
 }
 
 // Does all that the operands from the first on lead to answer yes, all below `owner`? What is shared is asked once.
-fn rest_answer(
-    deck: &Deck,
-    question: &Question,
-    owner: ConceptId,
-    list: Span,
-    first: u32,
-) -> bool
+fn rest_answer(deck: &Deck, question: &Question, owner: ConceptId, list: Span, first: u32) -> bool
     requires owner_bound { owner.0 < concept_count (content deck.now) }
     requires list_fits { ListFits deck.now.bytes.now owner.0 list }
     ensures { result ≡ every (map (every_leaf (content deck.now) question.now) (drop first (list_of deck.now.bytes.now list))) }
