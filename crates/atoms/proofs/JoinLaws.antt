@@ -25,7 +25,7 @@ use Rattle.atoms.proofs.BitLaws.{bit-or, same_low}
 use Rattle.atoms.proofs.MemberLaws.{by_cases}
 use Rattle.atoms.proofs.LabelLaws.{length-insert, insert-all-append}
 use Rattle.atoms.proofs.ListWalks.{flat-same, flat-flat}
-use Rattle.atoms.proofs.LeafLaws.{has-append, atoms-leaves, dropped-below, begins}
+use Rattle.atoms.proofs.LeafLaws.{has-append, atoms-leaves}
 
 -- ---- a number is its bits
 below-pow : (n : ℕ) → n < 2 ^ n
@@ -157,12 +157,9 @@ module _ (D : Deck) (f : ℕ → List ℕ) where
   abbrev takes : List ℕ → List ℕ → ℕ → List ℕ
   takes label marks i = insert_all label (flat_map f (pending D marks i))
 
-  pub takes-operands : (label l : List ℕ) (first i : ℕ) → i ≤ 16384 → ((j : ℕ) → j < length l → get_or l j 0 < i) → {none was : List ℕ} → none ≡ replicate 256 0 → was ≡ insert_all none (drop first l)
-      → insert_all label (flat_map (λ o. flat_map f (leaves D o)) (drop first l)) ≡ takes label was i
-  takes-operands label l first i h b {none} {was} z m =
-      let rest = drop first l in
-      ap (insert_all label) (sym (flat-flat f (leaves D) rest))
-      ∙ insert-same label (flat_map f (flat_map (leaves D) rest)) (flat_map f (pending D was i)) (flat-members f (flat_map (leaves D) rest) (pending D was i) (begins D 256 rest i h (dropped-below D i first l b) (m ∙ ap (λ (x : List ℕ). insert_all x rest) z)))
+  pub takes-start : (label l was : List ℕ) (i : ℕ) → Same (flat_map (leaves D) l) (pending D was i) → insert_all label (flat_map (λ o. flat_map f (leaves D o)) l) ≡ takes label was i
+  takes-start label l was i S =
+      ap (insert_all label) (sym (flat-flat f (leaves D) l)) ∙ insert-same label (flat_map f (flat_map (leaves D) l)) (flat_map f (pending D was i)) (flat-members f (flat_map (leaves D) l) (pending D was i) S)
 
   module _ (label : List ℕ) {was : List ℕ} {i : ℕ} {marks : List ℕ} where
     pub takes-next : {k : ConceptId} → Next D was i marks (Some k) → {next : List ℕ} → next ≡ insert_all label (f k.0) → takes label was i ≡ takes next marks k.0

@@ -39,7 +39,7 @@ use Rattle.atoms.proofs.WalkLaws.{walk-append}
 use Rattle.atoms.proofs.MemberLaws.{or_assoc}
 use Rattle.atoms.proofs.FloorLaws.{atoms-atomic}
 use Rattle.atoms.proofs.BodyLaws.{body-label, body-reasons}
-use Rattle.atoms.proofs.LeafLaws.{atoms-leaves, leaf-atomless, every-same, begins}
+use Rattle.atoms.proofs.LeafLaws.{atoms-leaves, leaf-atomless, every-same}
 use Rattle.atoms.proofs.JoinLaws.{insert-same, flat-members}
 
 -- ---- is one of a list so
@@ -107,13 +107,11 @@ module _ (D : Deck) (r : ℕ) where
   coming_same : (xs ys : List ℕ) → Same xs ys → (s : Gathered) → took D r (flat_map (required_atoms D) xs) s ≡ took D r (flat_map (required_atoms D) ys) s
   coming_same xs ys S = took-same D r (flat_map (required_atoms D) xs) (flat_map (required_atoms D) ys) (flat-members (required_atoms D) xs ys S)
 
-  pub coming-start : Sound D → (c : ℕ) → c + 1 ≤ 16384 → {none was : List ℕ} → none ≡ replicate 256 0 → was ≡ insert_bit none c → (s : Gathered) → took D r (required_atoms D c) s ≡ coming was (c + 1) s
-  unfolding flat_map insert_all
-  coming-start W c h {none} {was} z e s =
-      let one : (j : ℕ) → j < 1 → get_or (c ∷ []) j 0 < c + 1 = λ j b. let y : j ≡ 0 = omega arith in rw y (omega arith) in
-      let S : Same (leaves D c ++ []) (pending D was (c + 1)) = begins D 256 (c ∷ []) (c + 1) h one (e ∙ ap (λ (m : List ℕ). insert_bit m c) z) in
+  pub coming-start : Sound D → (c : ℕ) (was : List ℕ) (i : ℕ) → Same (flat_map (leaves D) (c ∷ [])) (pending D was i) → (s : Gathered) → took D r (required_atoms D c) s ≡ coming was i s
+  unfolding flat_map
+  coming-start W c was i S s =
       ap (λ (ks : List ℕ). took D r ks s) (atoms-leaves D W c ∙ ap (flat_map (required_atoms D)) (sym (append-nil (leaves D c))))
-      ∙ coming_same (leaves D c ++ []) (pending D was (c + 1)) S s
+      ∙ coming_same (leaves D c ++ []) (pending D was i) S s
 
   module _ {was : List ℕ} {i : ℕ} {marks : List ℕ} (s : Gathered) where
     pub coming-next : {k : ConceptId} → Next D was i marks (Some k) → {s' : Gathered} → s' ≡ took D r (required_atoms D k.0) s → coming was i s ≡ coming marks k.0 s'

@@ -560,15 +560,14 @@ module _ (D : Deck) where
     unfolding every
     asks-end N = every-same p (pending D was i) [] N.same
 
-  -- the operands from one on, which the walk begins with
+  -- what a walk begins with
+  pub asks-start : (q : Question) (l was : List ℕ) (i : ℕ) → Same (flat_map (leaves D) l) (pending D was i) → every (map (every_leaf D q) l) ≡ asks (answer D q) was i
+  unfolding every_leaf
+  asks-start q l was i S = sym (every-flat (answer D q) (leaves D) l) ∙ every-same (answer D q) _ _ S
+
+  -- the operands from one on
   pub dropped-below : (n first : ℕ) (l : List ℕ) → ((j : ℕ) → j < length l → get_or l j 0 < n) → (j : ℕ) → j < length (drop first l) → get_or (drop first l) j 0 < n
   dropped-below n first l b j h = rw (get_or-drop first l j 0) (b (first + j) (omega (arith, h, length-drop first l)))
-
-  pub asks-operands : (q : Question) (l : List ℕ) (first i : ℕ) → i ≤ 16384 → ((j : ℕ) → j < length l → get_or l j 0 < i) → {none was : List ℕ} → none ≡ replicate 256 0 → was ≡ insert_all none (drop first l)
-      → every (map (every_leaf D q) (drop first l)) ≡ asks (answer D q) was i
-  unfolding every_leaf
-  asks-operands q l first i h b {none} {was} z m =
-      sym (every-flat (answer D q) (leaves D) (drop first l)) ∙ every-same (answer D q) _ _ (begins 256 (drop first l) i h (dropped-below i first l b) (m ∙ ap (λ (x : List ℕ). insert_all x (drop first l)) z))
 
 -- marks for all concepts
 pub marks-reach : (s : List ℕ) → IsAccepted s → {marks : List ℕ} → marks ≡ replicate 256 0 → {k : ℕ} → k < concept_count (deck_of s) → (k < 16384) × (k < length marks * 64)

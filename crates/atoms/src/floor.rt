@@ -1,5 +1,5 @@
 // The top floor: what every element without a real class has.
-ghost use Rattle.std.specs.Prelude.{◌≡◌, ◌+◌, ◌*◌, ◌%◌, ◌^◌, ◌<◌, ◌≤◌, length, get_or, drop, replicate};
+ghost use Rattle.std.specs.Prelude.{◌≡◌, ◌+◌, ◌*◌, ◌%◌, ◌^◌, ◌<◌, ◌≤◌, length, get_or, drop};
 ghost use mathlib.Core.List.{map, flat_map};
 ghost use Rattle.deck.specs.Accepted.{content};
 ghost use Rattle.deck.specs.Below.{any_below};
@@ -14,7 +14,7 @@ ghost use Rattle.atoms.specs.Floor.{universal, atom_rows, member_rows, floor_of,
 use crate::labels;
 use crate::leaves::{Question, is_and};
 use crate::lists::{member, operand};
-use crate::marks::{mark_operands, next_leaf};
+use crate::marks::Leaves;
 use crate::short::answer_soon;
 use crate::subsumers::insert_satisfiable;
 use deck::Deck;
@@ -44,38 +44,16 @@ fn join_leaf(deck: &Deck, concept: ConceptId, label: &mut [u64])
     }
 }
 
-// The same of all that the operands from the first on lead to, all below `owner`: by marks, none at first, so what is shared is joined once.
-fn join_marked(
-    deck: &Deck,
-    owner: ConceptId,
-    list: Span,
-    first: u32,
-    label: &mut [u64],
-    marks: &mut [u64],
-)
-    requires owner_bound { owner.0 < concept_count (content deck.now) }
-    requires list_fits { ListFits deck.now.bytes.now owner.0 list }
-    requires label_len { length label.old ≡ label_width (content deck.now) }
-    requires marks_value { marks.old ≡ replicate 256 0 }
-    ensures { label.new ≡ insert_all label.old (flat_map (atom_rows (content deck.now)) (drop first (list_of deck.now.bytes.now list))) }
-{
-    mark_operands(deck, owner, list, first, marks);
-    let mut below = owner.0;
-    while let Some(leaf) = next_leaf(deck, marks, below) {
-        join_leaf(deck, leaf, label);
-        below = leaf.0;
-    }
-}
-
-// The same, with marks of its own.
+// The same of all that the operands from the first on lead to, all below `owner`: what is shared is joined once.
 fn join_rest(deck: &Deck, owner: ConceptId, list: Span, first: u32, label: &mut [u64])
     requires owner_bound { owner.0 < concept_count (content deck.now) }
     requires list_fits { ListFits deck.now.bytes.now owner.0 list }
     requires label_len { length label.old ≡ label_width (content deck.now) }
     ensures { label.new ≡ insert_all label.old (flat_map (atom_rows (content deck.now)) (drop first (list_of deck.now.bytes.now list))) }
 {
-    let mut marks: [u64; 256] = [0; 256];
-    join_marked(deck, owner, list, first, label, &mut marks);
+    for leaf in Leaves::of_operands(deck, owner, list, first) {
+        join_leaf(deck, leaf, label);
+    }
 }
 
 // The same of the whole list: marks only from the first And on.

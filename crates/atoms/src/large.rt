@@ -1,5 +1,5 @@
 // The label of the target of a Some where shared operands make its body's required atoms many: each concept is taken once, and reasons are noted by tables.
-ghost use Rattle.std.specs.Prelude.{◌≡◌, true, false, [], ◌∷◌, map, ◌<◌, length, replicate, get_or};
+ghost use Rattle.std.specs.Prelude.{◌≡◌, true, false, [], ◌∷◌, map, ◌<◌, length, get_or};
 ghost use Rattle.deck.specs.Accepted.{content};
 ghost use Rattle.deck.specs.Deck.{class_count, role_count, concept_count, concept_at};
 ghost use Rattle.eval.specs.Lent.{label_width};
@@ -13,8 +13,7 @@ ghost use Rattle.atoms.specs.Large.{seen_as, gathered, is_any, atom_gives, took,
 
 use crate::body::join_ranges;
 use crate::labels;
-use crate::labels::insert_bit;
-use crate::marks::next_leaf;
+use crate::marks::Leaves;
 use crate::occurrences::{fill_deltas, fill_firsts, note_deltas};
 use crate::reasons::{Reason, note};
 use crate::target_label::join_target;
@@ -60,43 +59,22 @@ fn join_leaf(deck: &Deck, r: RoleId, concept: ConceptId, label: &mut [u64], seen
     }
 }
 
-// The label takes the required atoms of a concept in, from its number downward, each concept once. No concept is marked yet.
-fn join_marked(
-    deck: &Deck,
-    r: RoleId,
-    concept: ConceptId,
-    marks: &mut [u64],
-    label: &mut [u64],
-) -> Seen
-    requires r_bound { r.0 < role_count (content deck.now) }
-    requires concept_bound { concept.0 < concept_count (content deck.now) }
-    requires marks_value { marks.old ≡ replicate 256 0 }
-    requires label_len { length label.old ≡ label_width (content deck.now) }
-    ensures { gathered label.new result ≡ took (content deck.now) r.0 (required_atoms (content deck.now) concept.0) (gathered label.old (seen_as false false false)) }
-{
-    insert_bit(marks, concept.0);
-    let mut below = concept.0 + 1;
-    let mut seen = Seen {
-        found: false,
-        unclosed: false,
-        delta: false,
-    };
-    while let Some(leaf) = next_leaf(deck, marks, below) {
-        seen = join_leaf(deck, r, leaf, label, seen);
-        below = leaf.0;
-    }
-    seen
-}
-
-// The same with marks of its own.
+// The label takes the required atoms of a concept in, each concept once.
 fn join_leaves(deck: &Deck, r: RoleId, concept: ConceptId, label: &mut [u64]) -> Seen
     requires r_bound { r.0 < role_count (content deck.now) }
     requires concept_bound { concept.0 < concept_count (content deck.now) }
     requires label_len { length label.old ≡ label_width (content deck.now) }
     ensures { gathered label.new result ≡ took (content deck.now) r.0 (required_atoms (content deck.now) concept.0) (gathered label.old (seen_as false false false)) }
 {
-    let mut marks: [u64; 256] = [0; 256];
-    join_marked(deck, r, concept, &mut marks, label)
+    let mut seen = Seen {
+        found: false,
+        unclosed: false,
+        delta: false,
+    };
+    for leaf in Leaves::of_concept(deck, concept) {
+        seen = join_leaf(deck, r, leaf, label, seen);
+    }
+    seen
 }
 
 // The RunDeltas of a concept's required atoms, where there are any; the new total.

@@ -1,5 +1,5 @@
 // Questions of all that a concept's Ands lead to.
-ghost use Rattle.std.specs.Prelude.{◌≡◌, false, ◌∷◌, [], map, ◌<◌, drop, replicate};
+ghost use Rattle.std.specs.Prelude.{◌≡◌, false, ◌∷◌, [], map, ◌<◌, drop};
 ghost use Rattle.deck.specs.Accepted.{content};
 ghost use Rattle.deck.specs.Deck.{concept_count, concept_at};
 ghost use Rattle.deck.specs.Reads.{list_of, ListFits};
@@ -8,7 +8,7 @@ ghost use Rattle.atoms.specs.Leaves.{IsLeaf, holds_atom, allows, answer, every_l
 
 use crate::labels::has_bit;
 use crate::lists::operand;
-use crate::marks::{mark_operands, next_leaf};
+use crate::marks::Leaves;
 use deck::Deck;
 use deck::concepts::ConceptExpr;
 use deck::numbers::{ClassId, ConceptId};
@@ -74,39 +74,18 @@ pub fn leaf_answer(deck: &Deck, question: &Question, concept: ConceptId) -> bool
     }
 }
 
-// Does each operand from the first on answer yes, all below `owner`? By marks, none at first: what is shared is read once.
-fn marked_answer(
-    deck: &Deck,
-    question: &Question,
-    owner: ConceptId,
-    list: Span,
-    first: u32,
-    marks: &mut [u64],
-) -> bool
-    requires owner_bound { owner.0 < concept_count (content deck.now) }
-    requires list_fits { ListFits deck.now.bytes.now owner.0 list }
-    requires marks_value { marks.old ≡ replicate 256 0 }
-    ensures { result ≡ every (map (every_leaf (content deck.now) question.now) (drop first (list_of deck.now.bytes.now list))) }
-{
-    mark_operands(deck, owner, list, first, marks);
-    let mut below = owner.0;
-    while let Some(leaf) = next_leaf(deck, marks, below) {
-        if !leaf_answer(deck, question, leaf) {
-            return false;
-        }
-        below = leaf.0;
-    }
-    true
-}
-
-// The same, with marks of its own.
+// Does all that the operands from the first on lead to answer yes, all below `owner`? What is shared is asked once.
 fn rest_answer(deck: &Deck, question: &Question, owner: ConceptId, list: Span, first: u32) -> bool
     requires owner_bound { owner.0 < concept_count (content deck.now) }
     requires list_fits { ListFits deck.now.bytes.now owner.0 list }
     ensures { result ≡ every (map (every_leaf (content deck.now) question.now) (drop first (list_of deck.now.bytes.now list))) }
 {
-    let mut marks: [u64; 256] = [0; 256];
-    marked_answer(deck, question, owner, list, first, &mut marks)
+    for leaf in Leaves::of_operands(deck, owner, list, first) {
+        if !leaf_answer(deck, question, leaf) {
+            return false;
+        }
+    }
+    true
 }
 
 // The same of the whole list: marks only from the first And on.
