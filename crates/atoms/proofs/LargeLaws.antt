@@ -1,10 +1,9 @@
 -- A body with many required atoms: what they give a label does not mind order and repeats, a walk that takes each concept once, and the reasons.
 -- Assumes nothing.
-use Prim.Native.Nat.{ℕ, ◌+◌, ◌<◌, ◌≤◌}
+use Prim.Native.Nat.{ℕ}
 use mathlib.Core.Bool.{Bool, true, false, cond, not, ◌||◌, ◌&&◌, or-true, or-false}
 use mathlib.Core.Path.{◌≡◌, refl, sym, ap, ◌∙◌}
 use mathlib.Core.List.{List, [], ◌∷◌, ◌++◌, map, flat_map, append-nil}
-use native.Mathlib.Omega.{arith}
 use lib.ListN.{length, get_or, replicate}
 use types.Run.{OneOf}
 use denote.Enum.Declared.{tag_of}
@@ -25,7 +24,7 @@ use Rattle.atoms.specs.declared.reasons.Reason.{Reason}
 use Rattle.atoms.specs.declared.target_label.Target.{Target}
 use Rattle.atoms.specs.declared.target_label.Target.TheVariants.{Row, Delta, NotClosed}
 use Rattle.atoms.specs.Walk.{walk}
-use Rattle.atoms.specs.Label.{insert_bit, insert_all, label_of}
+use Rattle.atoms.specs.Label.{insert_all, label_of}
 use Rattle.atoms.specs.Floor.{required_atoms}
 use Rattle.atoms.specs.Leaves.{leaves, IsLeaf, pending, Same, Next}
 use Rattle.atoms.specs.Reasons.{noted, counted, Log, note, label_not_closed}
