@@ -7,6 +7,8 @@ use mathlib.Core.List.{List, [], ◌∷◌, map, flat_map}
 use lib.ListN.{length, replicate, length-replicate}
 use types.Run.{OneOf}
 use denote.Enum.Declared.{tag_of}
+use Rattle.std.specs.Prelude.{Option, Some, None}
+use Rattle.std.specs.Option.{option_or}
 use Rattle.deck.specs.contracts.concepts.ConceptExpr.{the_type}
 use Rattle.deck.specs.declared.concepts.ConceptExpr.{ConceptExpr}
 use Rattle.deck.specs.declared.numbers.ClassId.{ClassId}
@@ -16,7 +18,6 @@ use Rattle.deck.specs.Content.{IsAccepted, deck_of}
 use Rattle.deck.specs.Reads.{ConceptRead, list_of}
 use Rattle.eval.specs.Lent.{label_width}
 use Rattle.eval.specs.Lists.{any}
-use Rattle.eval.proofs.Clash.{clash}
 use Rattle.atoms.specs.declared.body.Atoms.{Atoms}
 use Rattle.atoms.specs.declared.target_label.Target.{Target}
 use Rattle.atoms.specs.declared.target_label.Target.TheVariants.{Row, Delta, NotClosed}
@@ -25,31 +26,30 @@ use Rattle.atoms.specs.Label.{insert_all, label_of}
 use Rattle.atoms.specs.Floor.{required_atoms}
 use Rattle.atoms.specs.Reasons.{noted, counted, Log, note, run_delta, label_not_closed}
 use Rattle.atoms.specs.Target.{target_of}
-use Rattle.atoms.specs.Body.{Body, body, Joined, met, row_of_class, join_by, join_atom, join_atoms, no_atoms, noted_in, with_ranges, close_body, body_of, row_by, delta_by, open_by, atom_row, atom_delta, atom_open, classes_of, reasons_of}
+use Rattle.atoms.specs.Body.{Body, body, Joined, met, row_of_class, join_by, join_atom, join_atoms, no_atoms, noted_in, close_by, close_body, body_of, row_by, delta_by, open_by, atom_row, atom_delta, atom_open, classes_of, reasons_of}
 use Rattle.atoms.proofs.FloorLaws.{atoms-atomic, atoms-and, atoms-other}
 use Rattle.atoms.proofs.WalkLaws.{walk-append, walk-flat, walk-keeps}
 use Rattle.atoms.proofs.MemberLaws.{or_assoc}
 use Rattle.atoms.proofs.LabelLaws.{length-insert-all, insert-all-append}
 
 -- ---- one more atom
-pub met-again : (a : ℕ) (j : Atoms) → j.found ≡ true → j ≡ met a j
-met-again a j e = let p : record { found = j.found; first = j.first; unclosed = j.unclosed; reasons = j.reasons } ≡ met a j = rw e in p
-
--- by the label t of its target; j becomes z
-module _ (D : Deck) (r a : ℕ) {t : Target} (p : t ≡ target_of D a r) (l g : List ℕ) (j : Atoms) {z : Atoms} (f : z ≡ met a j) where
+-- by its target t; j becomes z
+module _ (D : Deck) (r a : ℕ) {t : Target} (p : t ≡ target_of D a r) (l g : List ℕ) (j : Atoms) {z : Atoms} (f : z ≡ met a j) {l' : List ℕ} (e : l' ≡ insert_all l (atom_row D r a)) where
   joined_by : (v : Target) → t ≡ v → join_by D a v (body l g j) ≡ join_atom D r a (body l g j)
   unfolding join_atom
   joined_by v q = ap (λ (t : Target). join_by D a t (body l g j)) (sym q ∙ p)
 
-  pub joined-row : (k : ClassId) → t ≡ Row k → {l' : List ℕ} → l' ≡ insert_all l (row_of_class D k.0) → body l' g z ≡ join_atom D r a (body l g j)
-  joined-row k q e = rw (e, f) (joined_by (Row k) q)
+  label-by-row : (v : Target) → t ≡ v → l' ≡ insert_all l (row_by D a v)
+  label-by-row v q = e ∙ ap (λ (t : Target). insert_all l (row_by D a t)) (sym p ∙ q)
 
-  pub joined-delta : (k : ClassId) → t ≡ Delta k → {l' : List ℕ} → l' ≡ insert_all l (row_of_class D k.0) → {g' : List ℕ} {n : ℕ} → g' ≡ noted g z.reasons (run_delta a) → n ≡ counted z.reasons
-      → body l' g' (record { found = z.found; first = z.first; unclosed = z.unclosed; reasons = n }) ≡ join_atom D r a (body l g j)
-  joined-delta k q e u v = rw (e, u, v, f) (joined_by (Delta k) q)
+  pub joined-row : (k : ClassId) → t ≡ Row k → body l' g z ≡ join_atom D r a (body l g j)
+  joined-row k q = rw (label-by-row (Row k) q, f) (joined_by (Row k) q)
 
-  pub joined-open : t ≡ NotClosed → {l' : List ℕ} → l' ≡ insert_all l (row_of_class D a) → body l' g (record { found = z.found; first = z.first; unclosed = true; reasons = z.reasons }) ≡ join_atom D r a (body l g j)
-  joined-open q e = rw (e, f) (joined_by NotClosed q)
+  pub joined-delta : (k : ClassId) → t ≡ Delta k → {g' : List ℕ} {n : ℕ} → g' ≡ noted g z.reasons (run_delta a) → n ≡ counted z.reasons → body l' g' (record { first = z.first; unclosed = z.unclosed; reasons = n }) ≡ join_atom D r a (body l g j)
+  joined-delta k q u v = rw (label-by-row (Delta k) q, u, v, f) (joined_by (Delta k) q)
+
+  pub joined-open : t ≡ NotClosed → body l' g (record { first = z.first; unclosed = true; reasons = z.reasons }) ≡ join_atom D r a (body l g j)
+  joined-open q = rw (label-by-row NotClosed q, f) (joined_by NotClosed q)
 
 -- ---- the atoms of a concept that was read
 module _ (s : List ℕ) (A : IsAccepted s) (c : ℕ) {expr : ConceptExpr} (R : ConceptRead s c expr) (r : ℕ) (b : Body) where
@@ -78,13 +78,13 @@ module _ (D : Deck) (r b : ℕ) (log : List ℕ) (n : ℕ) (l₁ l₀ : List ℕ
   unfolding body_of
   close-is = ap (close_body D r) (E ∙ ap (λ (x : List ℕ). join_atoms D r b (body x log (no_atoms n))) (Z ∙ ap (λ (w : ℕ). replicate w 0) W))
 
-  pub close-none : j.found ≡ false → {l' : List ℕ} → l' ≡ insert_all l (flat_map (row_of_class D) (role_at D r).range) → Joined l' g j.reasons (body_of D r b log n)
+  pub close-none : j.first ≡ None → {l' : List ℕ} → l' ≡ insert_all l (flat_map (row_of_class D) (role_at D r).range) → Joined l' g j.reasons (body_of D r b log n)
   close-none e {l'} q = subst (Joined l' g j.reasons) close-is (rw e (record { label = q; log = refl; reasons = refl }))
 
-  pub close-all : j.found ≡ true → j.unclosed ≡ false → Joined l g j.reasons (body_of D r b log n)
+  pub close-all : {a : ClassId} → j.first ≡ Some a → j.unclosed ≡ false → Joined l g j.reasons (body_of D r b log n)
   close-all e u = subst (Joined l g j.reasons) close-is (rw (e, u) (record { label = refl; log = refl; reasons = refl }))
 
-  pub close_open : j.found ≡ true → j.unclosed ≡ true → {g' : List ℕ} {n' : ℕ} → g' ≡ noted g j.reasons (label_not_closed j.first.0 r) → n' ≡ counted j.reasons → Joined l g' n' (body_of D r b log n)
+  pub close_open : {a : ClassId} → j.first ≡ Some a → j.unclosed ≡ true → {g' : List ℕ} {n' : ℕ} → g' ≡ noted g j.reasons (label_not_closed a.0 r) → n' ≡ counted j.reasons → Joined l g' n' (body_of D r b log n)
   close_open e u {g'} {n'} p q = subst (Joined l g' n') close-is (rw (e, u) (record { label = refl; log = p; reasons = q }))
 
 -- ---- what a label keeps that takes rows of classes in, the label of a body's target has
@@ -100,12 +100,15 @@ module _ (D : Deck) (P : List ℕ → Type 0) (K : (k : ℕ) (l : List ℕ) → 
   rows-keep (k ∷ ks) l p = rw (insert-all-append l (row_of_class D k) (flat_map (row_of_class D) ks)) (rows-keep ks (insert_all l (row_of_class D k)) (K k l p))
 
   close-keeps : (r : ℕ) (s : Body) → P s.label → P (close_body D r s).label
-  close-keeps r s p = by s.atoms.found s.atoms.unclosed
+  close-keeps r s p = by s.atoms.first s.atoms.unclosed
     where
-      by : (f u : Bool) → P (cond f (cond u (noted_in (label_not_closed s.atoms.first.0 r) s) s) (with_ranges D r s)).label
-      by true true = p
-      by true false = p
-      by false u = rows-keep (role_at D r).range s.label p
+      one : (a : ClassId) (u : Bool) → P (cond u (noted_in (label_not_closed a.0 r) s) s).label
+      one a true = p
+      one a false = p
+
+      by : (f : Option ClassId) (u : Bool) → P (close_by D r f s).label
+      by None u = rows-keep (role_at D r).range s.label p
+      by (Some a) u = one a s.atoms.unclosed
 
   pub body-keeps : P (replicate (label_width D) 0) → (r b : ℕ) (log : List ℕ) (n : ℕ) → P (body_of D r b log n).label
   unfolding body_of join_atoms join_atom
@@ -138,10 +141,10 @@ module _ (D : Deck) (r : ℕ) where
   by-open a (Delta k) s = sym (or-false s.atoms.unclosed)
   by-open a NotClosed s = sym (or-true s.atoms.unclosed)
 
-  by_first : (a : ℕ) (t : Target) (s : Body) → ((join_by D a t s).atoms.found ≡ true) × ((join_by D a t s).atoms.first ≡ cond s.atoms.found s.atoms.first (record { 0 = a }))
-  by_first a (Row k) s = (refl, refl)
-  by_first a (Delta k) s = (refl, refl)
-  by_first a NotClosed s = (refl, refl)
+  by_first : (a : ℕ) (t : Target) (s : Body) → (join_by D a t s).atoms.first ≡ option_or s.atoms.first (Some (record { 0 = a }))
+  by_first a (Row k) s = refl
+  by_first a (Delta k) s = refl
+  by_first a NotClosed s = refl
 
   -- the same of several atoms
   atoms-label : (ks : List ℕ) (s : Body) → (walk (join_atom D r) ks s).label ≡ insert_all s.label (flat_map (atom_row D r) ks)
@@ -165,34 +168,24 @@ module _ (D : Deck) (r : ℕ) where
       atoms-open ks (join_atom D r a s) ∙ ap (λ (u : Bool). u || any (map (atom_open D r) ks)) (by-open a (target_of D a r) s)
       ∙ or_assoc s.atoms.unclosed (atom_open D r a) (any (map (atom_open D r) ks))
 
-  atoms-first : (ks : List ℕ) (s : Body) → s.atoms.found ≡ true → ((walk (join_atom D r) ks s).atoms.found ≡ true) × ((walk (join_atom D r) ks s).atoms.first ≡ s.atoms.first)
+  atoms-first : (ks : List ℕ) (s : Body) {x : ClassId} → s.atoms.first ≡ Some x → (walk (join_atom D r) ks s).atoms.first ≡ Some x
   unfolding walk join_atom
-  atoms-first [] s f = (f, refl)
-  atoms-first (a ∷ ks) s f =
-      let p = by_first a (target_of D a r) s in
-      let q = atoms-first ks (join_atom D r a s) p.0 in
-      (q.0, q.1 ∙ p.1 ∙ rw f)
+  atoms-first [] s f = f
+  atoms-first (a ∷ ks) s f = atoms-first ks (join_atom D r a s) (by_first a (target_of D a r) s ∙ rw f)
 
   -- what closes them
-  module _ (s : Body) where
-    close-label : s.atoms.found ≡ true → (close_body D r s).label ≡ s.label
-    close-label f = by s.atoms.found f s.atoms.unclosed
+  module _ (s : Body) {a : ClassId} (f : s.atoms.first ≡ Some a) where
+    close-label : (close_body D r s).label ≡ s.label
+    close-label = ap (λ (o : Option ClassId). (close_by D r o s).label) f ∙ by s.atoms.unclosed
       where
-        by : (g : Bool) → g ≡ true → (u : Bool) → (cond g (cond u (noted_in (label_not_closed s.atoms.first.0 r) s) s) (with_ranges D r s)).label ≡ s.label
-        by true e true = refl
-        by true e false = refl
-        by false e u = clash (cc)
+        by : (u : Bool) → (cond u (noted_in (label_not_closed a.0 r) s) s).label ≡ s.label
+        by true = refl
+        by false = refl
 
-    close-log : (a : ℕ) → s.atoms.found ≡ true → s.atoms.first ≡ record { 0 = a } → (v : Bool) → s.atoms.unclosed ≡ v → log_in (close_body D r s) ≡ walk note (cond v (label_not_closed a r ∷ []) []) (log_in s)
+    close-log : (v : Bool) → s.atoms.unclosed ≡ v → log_in (close_body D r s) ≡ walk note (cond v (label_not_closed a.0 r ∷ []) []) (log_in s)
     unfolding walk
-    close-log a f q v w = by s.atoms.found f s.atoms.unclosed v w
-      where
-        by : (g : Bool) → g ≡ true → (u v : Bool) → u ≡ v → log_in (cond g (cond u (noted_in (label_not_closed s.atoms.first.0 r) s) s) (with_ranges D r s)) ≡ walk note (cond v (label_not_closed a r ∷ []) []) (log_in s)
-        by true e true true h = ap (λ (x : ClassId). note (label_not_closed x.0 r) (log_in s)) q
-        by true e true false h = clash (cc)
-        by true e false true h = clash (cc)
-        by true e false false h = refl
-        by false e u v h = clash (cc)
+    close-log true w = rw (f, w)
+    close-log false w = rw (f, w)
 
   module _ (log : List ℕ) (n : ℕ) where
     abbrev none : Body
@@ -203,22 +196,19 @@ module _ (D : Deck) (r : ℕ) where
       abbrev met_all : Body
       met_all = walk (join_atom D r) (a ∷ ks) none
 
-      found_all : (met_all.atoms.found ≡ true) × (met_all.atoms.first ≡ record { 0 = a })
+      first-of-all : met_all.atoms.first ≡ Some (record { 0 = a })
       unfolding walk join_atom
-      found_all =
-          let p = by_first a (target_of D a r) none in
-          let q = atoms-first ks (join_atom D r a none) p.0 in
-          (q.0, q.1 ∙ p.1)
+      first-of-all = atoms-first ks (join_atom D r a none) (by_first a (target_of D a r) none)
 
       closed-label : (close_body D r met_all).label ≡ label_of (label_width D) (classes_of D r (a ∷ ks))
       unfolding label_of
-      closed-label = close-label met_all found_all.0 ∙ atoms-label (a ∷ ks) none
+      closed-label = close-label met_all first-of-all ∙ atoms-label (a ∷ ks) none
 
       closed-log : log_in (close_body D r met_all) ≡ walk note (reasons_of D r (a ∷ ks)) (log_in none)
       closed-log =
           let deltas = flat_map (atom_delta D r) (a ∷ ks) in
           let last = cond (any (map (atom_open D r) (a ∷ ks))) (label_not_closed a r ∷ []) [] in
-          close-log met_all a found_all.0 found_all.1 (any (map (atom_open D r) (a ∷ ks))) (atoms-open (a ∷ ks) none) ∙ ap (walk note last) (atoms-log (a ∷ ks) none)
+          close-log met_all first-of-all (any (map (atom_open D r) (a ∷ ks))) (atoms-open (a ∷ ks) none) ∙ ap (walk note last) (atoms-log (a ∷ ks) none)
           ∙ sym (walk-append note deltas last (log_in none))
 
     label-by : (ks : List ℕ) → (close_body D r (walk (join_atom D r) ks none)).label ≡ label_of (label_width D) (classes_of D r ks)

@@ -1,16 +1,18 @@
 -- A label that takes classes in does not mind repeats and order: `insert-same`. So a walk over marks joins what a walk in order does.
 --     takes-operands, takes-next, takes-end     what a walk by marks still has to join
-use Prim.Native.Nat.{ℕ, zero, suc, ◌+◌, ◌/◌, ◌%◌, ◌^◌, ◌<◌, ◌≤◌}
+use Prim.Native.Nat.{ℕ, zero, suc, ◌+◌, ◌/◌, ◌%◌, ◌^◌, ◌<◌}
 use mathlib.Core.Bool.{Bool, true, false, cond, ◌||◌}
 use mathlib.Core.Path.{◌≡◌, refl, sym, ap, ◌∙◌}
-use mathlib.Core.List.{List, [], ◌∷◌, flat_map}
+use mathlib.Core.List.{List, [], ◌∷◌, ◌++◌, flat_map}
 use native.Mathlib.Nat.{mod-eq_of_lt, two-pow-succ}
 use native.Mathlib.Omega.{arith}
-use lib.ListN.{length, get_or, drop, replicate}
+use lib.ListN.{length, get_or}
 use lib.Seq.{ext_get_or, get_or-set_same, get_or-set_other}
 use lib.Dec.{eqb}
 use lib.Bits.{bit_or}
-use borrow.Author.Tests.{eq-eqb, ne_eqb, eqb-true, lt-ltb, le-ltb}
+use borrow.Author.Tests.{eq-eqb, ne_eqb, eqb-true}
+use Rattle.std.specs.Prelude.{Some, None}
+use Rattle.deck.specs.declared.numbers.ConceptId.{ConceptId}
 use Rattle.deck.specs.Deck.{Deck, has}
 use Rattle.deck.specs.Sound.{Sound}
 use Rattle.eval.specs.Lent.{bit}
@@ -18,12 +20,12 @@ use Rattle.eval.proofs.LinkLaws.{same_truth}
 use Rattle.eval.proofs.Clash.{clash}
 use Rattle.atoms.specs.Label.{insert_bit, insert_all}
 use Rattle.atoms.specs.Floor.{required_atoms, satisfiable_row, atom_rows}
-use Rattle.atoms.specs.Leaves.{leaves, and_below, pending, Same, Next}
+use Rattle.atoms.specs.Leaves.{leaves, pending, Same, Next}
 use Rattle.atoms.proofs.BitLaws.{bit-or, same_low}
 use Rattle.atoms.proofs.MemberLaws.{by_cases}
 use Rattle.atoms.proofs.LabelLaws.{length-insert, insert-all-append}
 use Rattle.atoms.proofs.ListWalks.{flat-same, flat-flat}
-use Rattle.atoms.proofs.LeafLaws.{has-append, atoms-leaves, dropped-below, begins}
+use Rattle.atoms.proofs.LeafLaws.{has-append, atoms-leaves}
 
 -- ---- a number is its bits
 below-pow : (n : ℕ) → n < 2 ^ n
@@ -153,23 +155,22 @@ flat-members f xs ys S j = same_truth (has (flat_map f xs) j) (has (flat_map f y
 -- ---- what a walk by marks still has to join, where each leaf gives a list
 module _ (D : Deck) (f : ℕ → List ℕ) where
   abbrev takes : List ℕ → List ℕ → ℕ → List ℕ
-  takes label marks k = insert_all label (flat_map f (and_below D marks k))
+  takes label marks i = insert_all label (flat_map f (pending D marks i))
 
-  pub takes-operands : (label l : List ℕ) (first i : ℕ) → i ≤ 16384 → ((j : ℕ) → j < length l → get_or l j 0 < i) → {none was : List ℕ} → none ≡ replicate 256 0 → was ≡ insert_all none (drop first l) → {marks : List ℕ} {k : ℕ} → Next D was i marks k
-      → insert_all label (flat_map (λ o. flat_map f (leaves D o)) (drop first l)) ≡ takes label marks k
-  takes-operands label l first i h b {none} {was} z m {marks} {k} N =
-      let rest = drop first l in
-      ap (insert_all label) (sym (flat-flat f (leaves D) rest))
-      ∙ insert-same label (flat_map f (flat_map (leaves D) rest)) (flat_map f (and_below D marks k)) (flat-members f (flat_map (leaves D) rest) (and_below D marks k) (begins D 256 rest i h (dropped-below D i first l b) (m ∙ ap (λ (x : List ℕ). insert_all x rest) z) N))
+  pub takes-start : (label l was : List ℕ) (i : ℕ) → Same (flat_map (leaves D) l) (pending D was i) → insert_all label (flat_map (λ o. flat_map f (leaves D o)) l) ≡ takes label was i
+  takes-start label l was i S =
+      ap (insert_all label) (sym (flat-flat f (leaves D) l)) ∙ insert-same label (flat_map f (flat_map (leaves D) l)) (flat_map f (pending D was i)) (flat-members f (flat_map (leaves D) l) (pending D was i) S)
 
-  pub takes-next : (label : List ℕ) {next was : List ℕ} {i : ℕ} → i < 16384 → next ≡ insert_all label (f i) → {marks : List ℕ} {k : ℕ} → Next D was i marks k → takes label was i ≡ takes next marks k
-  unfolding flat_map
-  takes-next label {next} {was} {i} h e {marks} {k} N =
-      rw (lt-ltb i 16384 h, e) (insert-all-append label (f i) (flat_map f (pending D was i)) ∙ insert-same (insert_all label (f i)) (flat_map f (pending D was i)) (flat_map f (and_below D marks k)) (flat-members f (pending D was i) (and_below D marks k) N.same))
+  module _ (label : List ℕ) {was : List ℕ} {i : ℕ} {marks : List ℕ} where
+    pub takes-next : {k : ConceptId} → Next D was i marks (Some k) → {next : List ℕ} → next ≡ insert_all label (f k.0) → takes label was i ≡ takes next marks k.0
+    unfolding flat_map
+    takes-next {k} N {next} e =
+        insert-same label (flat_map f (pending D was i)) (f k.0 ++ flat_map f (pending D marks k.0)) (flat-members f (pending D was i) (k.0 ∷ pending D marks k.0) N.same)
+        ∙ rw e (insert-all-append label (f k.0) (flat_map f (pending D marks k.0)))
 
-  pub takes-end : (label marks : List ℕ) (k : ℕ) → 16384 ≤ k → takes label marks k ≡ label
-  unfolding flat_map insert_all
-  takes-end label marks k h = rw (le-ltb k 16384 h)
+    pub takes-end : Next D was i marks None → takes label was i ≡ label
+    unfolding flat_map insert_all
+    takes-end N = insert-same label (flat_map f (pending D was i)) [] (flat-members f (pending D was i) [] N.same)
 
 -- ---- rows of required atoms, by the leaves
 pub rows-leaves : (D : Deck) → Sound D → (l : List ℕ) → flat_map (atom_rows D) l ≡ flat_map (λ o. flat_map (atom_rows D) (leaves D o)) l

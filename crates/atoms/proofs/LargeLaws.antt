@@ -1,17 +1,17 @@
 -- A body with many required atoms: what they give a label does not mind order and repeats, a walk that takes each concept once, and the reasons.
 -- Assumes nothing.
-use Prim.Native.Nat.{ℕ, ◌+◌, ◌<◌, ◌≤◌}
+use Prim.Native.Nat.{ℕ}
 use mathlib.Core.Bool.{Bool, true, false, cond, not, ◌||◌, ◌&&◌, or-true, or-false}
 use mathlib.Core.Path.{◌≡◌, refl, sym, ap, ◌∙◌}
 use mathlib.Core.List.{List, [], ◌∷◌, ◌++◌, map, flat_map, append-nil}
-use native.Mathlib.Omega.{arith}
-use borrow.Author.Tests.{lt-ltb, le-ltb}
 use lib.ListN.{length, get_or, replicate}
 use types.Run.{OneOf}
 use denote.Enum.Declared.{tag_of}
 use Rattle.deck.specs.contracts.concepts.ConceptExpr.{the_type}
 use Rattle.deck.specs.declared.concepts.ConceptExpr.{ConceptExpr}
 use Rattle.deck.specs.declared.numbers.ClassId.{ClassId}
+use Rattle.std.specs.Prelude.{Some, None}
+use Rattle.deck.specs.declared.numbers.ConceptId.{ConceptId}
 use Rattle.deck.specs.Deck.{Deck, concept_at, role_at}
 use Rattle.deck.specs.Sound.{Sound}
 use Rattle.deck.specs.Content.{IsAccepted, deck_of}
@@ -24,12 +24,12 @@ use Rattle.atoms.specs.declared.reasons.Reason.{Reason}
 use Rattle.atoms.specs.declared.target_label.Target.{Target}
 use Rattle.atoms.specs.declared.target_label.Target.TheVariants.{Row, Delta, NotClosed}
 use Rattle.atoms.specs.Walk.{walk}
-use Rattle.atoms.specs.Label.{insert_bit, insert_all, label_of}
+use Rattle.atoms.specs.Label.{insert_all, label_of}
 use Rattle.atoms.specs.Floor.{required_atoms}
-use Rattle.atoms.specs.Leaves.{leaves, IsLeaf, pending, and_below, Same, Next}
+use Rattle.atoms.specs.Leaves.{leaves, IsLeaf, pending, Same, Next}
 use Rattle.atoms.specs.Reasons.{noted, counted, Log, note, label_not_closed}
 use Rattle.atoms.specs.Target.{target_of}
-use Rattle.atoms.specs.Body.{Joined, row_of_class, body_of, row_by, delta_by, open_by, atom_row, atom_delta, atom_open, classes_of, reasons_of}
+use Rattle.atoms.specs.Body.{Joined, row_of_class, body_of, delta_by, atom_row, atom_delta, atom_open, classes_of, reasons_of}
 use Rattle.atoms.specs.Occurrences.{logs, deltas_of, noted_deltas, IsFirst}
 use Rattle.atoms.specs.Large.{delta_from, Gathered, seen_as, gathered, is_any, atom_gives, took, SeenOf, noted_all}
 use Rattle.atoms.proofs.LabelLaws.{insert-all-append}
@@ -38,7 +38,7 @@ use Rattle.atoms.proofs.WalkLaws.{walk-append}
 use Rattle.atoms.proofs.MemberLaws.{or_assoc}
 use Rattle.atoms.proofs.FloorLaws.{atoms-atomic}
 use Rattle.atoms.proofs.BodyLaws.{body-label, body-reasons}
-use Rattle.atoms.proofs.LeafLaws.{atoms-leaves, leaf-atomless, every-same, begins}
+use Rattle.atoms.proofs.LeafLaws.{atoms-leaves, leaf-atomless, every-same}
 use Rattle.atoms.proofs.JoinLaws.{insert-same, flat-members}
 
 -- ---- is one of a list so
@@ -83,20 +83,12 @@ module _ (D : Deck) (r : ℕ) where
       same_parts (insert-same s.label (flat_map (atom_row D r) xs) (flat_map (atom_row D r) ys) (flat-members (atom_row D r) xs ys S)) (ap (λ (b : Bool). s.seen.found || b) (any_same is_any xs ys S))
       (ap (λ (b : Bool). s.seen.unclosed || b) (any_same (atom_open D r) xs ys S)) (ap (λ (b : Bool). s.seen.delta || b) (any_same (atom_gives D r) xs ys S))
 
-  -- one atom, by the label t of its target
-  module _ (a : ℕ) {t : Target} (p : t ≡ target_of D a r) (l : List ℕ) (z : Seen) where
-    took_by : (v : Target) → t ≡ v → gathered (insert_all l (row_by D a v ++ [])) (seen_as (z.found || true) (z.unclosed || (open_by v || false)) (z.delta || (delta_from v || false))) ≡ took D r (a ∷ []) (gathered l z)
-    unfolding took flat_map any
-    took_by v q = ap (λ (t : Target). gathered (insert_all l (row_by D a t ++ [])) (seen_as (z.found || true) (z.unclosed || (open_by t || false)) (z.delta || (delta_from t || false)))) (sym q ∙ p)
-
-    pub took-row : (k : ClassId) → t ≡ Row k → {l' : List ℕ} → l' ≡ insert_all l (row_of_class D k.0) → gathered l' (seen_as true z.unclosed z.delta) ≡ took D r (a ∷ []) (gathered l z)
-    took-row k q e = same_parts (e ∙ ap (insert_all l) (sym (append-nil (row_of_class D k.0)))) (sym (or-true z.found)) (sym (or-false z.unclosed)) (sym (or-false z.delta)) ∙ took_by (Row k) q
-
-    pub took-delta : (k : ClassId) → t ≡ Delta k → {l' : List ℕ} → l' ≡ insert_all l (row_of_class D k.0) → gathered l' (seen_as true z.unclosed true) ≡ took D r (a ∷ []) (gathered l z)
-    took-delta k q e = same_parts (e ∙ ap (insert_all l) (sym (append-nil (row_of_class D k.0)))) (sym (or-true z.found)) (sym (or-false z.unclosed)) (sym (or-true z.delta)) ∙ took_by (Delta k) q
-
-    pub took-open : t ≡ NotClosed → {l' : List ℕ} → l' ≡ insert_all l (row_of_class D a) → gathered l' (seen_as true true z.delta) ≡ took D r (a ∷ []) (gathered l z)
-    took-open q e = same_parts (e ∙ ap (insert_all l) (sym (append-nil (row_of_class D a)))) (sym (or-true z.found)) (sym (or-true z.unclosed)) (sym (or-false z.delta)) ∙ took_by NotClosed q
+  -- one atom
+  pub took-one : (a : ℕ) (l : List ℕ) (z : Seen) {l' : List ℕ} {u d : Bool} → l' ≡ insert_all l (atom_row D r a) → u ≡ (z.unclosed || atom_open D r a) → d ≡ (z.delta || atom_gives D r a) → gathered l' (seen_as true u d) ≡ took D r (a ∷ []) (gathered l z)
+  unfolding took flat_map any
+  took-one a l z e p q =
+      same_parts (e ∙ ap (insert_all l) (sym (append-nil (atom_row D r a)))) (sym (or-true z.found)) (p ∙ ap (λ (b : Bool). z.unclosed || b) (sym (or-false (atom_open D r a))))
+      (q ∙ ap (λ (b : Bool). z.delta || b) (sym (or-false (atom_gives D r a))))
 
 -- ---- a concept that is no And
 module _ (s : List ℕ) (A : IsAccepted s) (c : ℕ) {expr : ConceptExpr} (R : ConceptRead s c expr) (r : ℕ) (g : Gathered) where
@@ -109,26 +101,27 @@ module _ (s : List ℕ) (A : IsAccepted s) (c : ℕ) {expr : ConceptExpr} (R : C
 -- ---- the walk downward: what is still to come
 module _ (D : Deck) (r : ℕ) where
   abbrev pub coming : List ℕ → ℕ → Gathered → Gathered
-  coming marks k s = took D r (flat_map (required_atoms D) (and_below D marks k)) s
+  coming marks i s = took D r (flat_map (required_atoms D) (pending D marks i)) s
 
-  pub coming-start : Sound D → (c : ℕ) → c + 1 ≤ 16384 → {none was : List ℕ} → none ≡ replicate 256 0 → was ≡ insert_bit none c → {marks : List ℕ} {k : ℕ} → Next D was (c + 1) marks k → (s : Gathered) → took D r (required_atoms D c) s ≡ coming marks k s
-  unfolding flat_map insert_all
-  coming-start W c h {none} {was} z e {marks} {k} N s =
-      let one : (j : ℕ) → j < 1 → get_or (c ∷ []) j 0 < c + 1 = λ j b. let y : j ≡ 0 = omega arith in rw y (omega arith) in
-      let S : Same (leaves D c ++ []) (and_below D marks k) = begins D 256 (c ∷ []) (c + 1) h one (e ∙ ap (λ (m : List ℕ). insert_bit m c) z) N in
+  coming_same : (xs ys : List ℕ) → Same xs ys → (s : Gathered) → took D r (flat_map (required_atoms D) xs) s ≡ took D r (flat_map (required_atoms D) ys) s
+  coming_same xs ys S = took-same D r (flat_map (required_atoms D) xs) (flat_map (required_atoms D) ys) (flat-members (required_atoms D) xs ys S)
+
+  pub coming-start : Sound D → (c : ℕ) (was : List ℕ) (i : ℕ) → Same (flat_map (leaves D) (c ∷ [])) (pending D was i) → (s : Gathered) → took D r (required_atoms D c) s ≡ coming was i s
+  unfolding flat_map
+  coming-start W c was i S s =
       ap (λ (ks : List ℕ). took D r ks s) (atoms-leaves D W c ∙ ap (flat_map (required_atoms D)) (sym (append-nil (leaves D c))))
-      ∙ took-same D r (flat_map (required_atoms D) (leaves D c ++ [])) (flat_map (required_atoms D) (and_below D marks k)) (flat-members (required_atoms D) (leaves D c ++ []) (and_below D marks k) S) s
+      ∙ coming_same (leaves D c ++ []) (pending D was i) S s
 
-  pub coming-next : {was : List ℕ} {i : ℕ} → i < 16384 → (s : Gathered) {s' : Gathered} → s' ≡ took D r (required_atoms D i) s → {marks : List ℕ} {k : ℕ} → Next D was i marks k → coming was i s ≡ coming marks k s'
-  unfolding flat_map
-  coming-next {was} {i} h s {s'} e {marks} {k} N =
-      rw (lt-ltb i 16384 h)
-      (took-append D r (required_atoms D i) (flat_map (required_atoms D) (pending D was i)) s ∙ ap (took D r (flat_map (required_atoms D) (pending D was i))) (sym e)
-      ∙ took-same D r (flat_map (required_atoms D) (pending D was i)) (flat_map (required_atoms D) (and_below D marks k)) (flat-members (required_atoms D) (pending D was i) (and_below D marks k) N.same) s')
+  module _ {was : List ℕ} {i : ℕ} {marks : List ℕ} (s : Gathered) where
+    pub coming-next : {k : ConceptId} → Next D was i marks (Some k) → {s' : Gathered} → s' ≡ took D r (required_atoms D k.0) s → coming was i s ≡ coming marks k.0 s'
+    unfolding flat_map
+    coming-next {k} N {s'} e =
+        coming_same (pending D was i) (k.0 ∷ pending D marks k.0) N.same s
+        ∙ took-append D r (required_atoms D k.0) (flat_map (required_atoms D) (pending D marks k.0)) s ∙ ap (took D r (flat_map (required_atoms D) (pending D marks k.0))) (sym e)
 
-  pub coming-end : (marks : List ℕ) (k : ℕ) → 16384 ≤ k → (s : Gathered) → s ≡ coming marks k s
-  unfolding flat_map
-  coming-end marks k h s = rw (le-ltb k 16384 h) (took-none D r s)
+    pub coming-end : Next D was i marks None → s ≡ coming was i s
+    unfolding flat_map
+    coming-end N = took-none D r s ∙ sym (coming_same (pending D was i) [] N.same s)
 
 -- ---- the reasons
 module _ (D : Deck) (r c : ℕ) where

@@ -20,12 +20,12 @@ use denote.Enum.Declared.{tag_of}
 use Rattle.deck.specs.contracts.concepts.ConceptExpr.{the_type}
 use Rattle.deck.specs.declared.concepts.ConceptExpr.{ConceptExpr}
 use Rattle.deck.specs.declared.rows.Span.{Span}
-use Rattle.deck.specs.Deck.{Deck, Concept, concept_at, has}
+use Rattle.deck.specs.Deck.{Deck, Concept, concept_count, concept_at, has}
 use Rattle.deck.specs.Sound.{Sound, ConceptFits, counts_in}
 use Rattle.deck.specs.Content.{IsAccepted, deck_of}
 use Rattle.deck.specs.Reads.{ConceptRead, expr_of, list_of}
 use Rattle.deck.specs.Below.{any_below}
-use Rattle.deck.proofs.SoundLaws.{sound}
+use Rattle.deck.proofs.SoundLaws.{sound, limited}
 use Rattle.deck.proofs.BelowLaws.{and_left, and_right, any_same}
 use Rattle.deck.proofs.CaseLaws.{lt-or-le}
 use Rattle.eval.specs.Lists.{every, any}
@@ -37,11 +37,13 @@ use Rattle.eval.proofs.Steps.{fits, each_below}
 use Rattle.atoms.specs.declared.leaves.Question.{Question}
 use Rattle.atoms.specs.declared.leaves.Question.TheVariants.{Universal, Atomless, Held}
 use Rattle.deck.specs.declared.numbers.ClassId.{ClassId}
-use Rattle.deck.specs.declared.numbers.Element.{Element}
+use denote.Ref.{Bor}
+use Rattle.std.specs.Prelude.{Option, Some, None}
+use Rattle.deck.specs.declared.numbers.ConceptId.{ConceptId}
 use Rattle.atoms.specs.Label.{label_has, insert_bit, insert_all}
 use Rattle.atoms.specs.Floor.{universal_of, universal, atoms_of, required_atoms}
 use Rattle.atoms.specs.Antecedent.{some_in, has_atom, holds_atoms}
-use Rattle.atoms.specs.Leaves.{leaves_of, leaves, IsLeaf, holds_atom, allows, answer_of, answer, every_leaf, pending, highest_mark, and_below, Same, Next}
+use Rattle.atoms.specs.Leaves.{leaves_of, leaves, IsLeaf, holds_atom, allows, answer_of, answer, every_leaf, pending, highest_mark, Same, Next}
 use Rattle.atoms.proofs.ListWalks.{flat-same, flat-flat}
 use Rattle.atoms.proofs.MemberLaws.{has-insert, or_assoc, none_has, by_cases}
 use Rattle.atoms.proofs.LabelLaws.{length-insert, length-insert-all}
@@ -70,32 +72,32 @@ module _ (D : Deck) (W : Sound D) where
   leaves_at = numbered-at [] (λ c f. leaves_of c (concept_at D c) f) (λ c f g q. leaves-same c (concept_at D c) (fits D W c) f g q)
 
   -- a value that is every operand's at an And, and else the answer, is every leaf's answer
-  module _ (q : Question) (label : List ℕ) (value : ℕ → Bool) where
+  module _ (q : Question) (value : ℕ → Bool) where
     abbrev ByForm : ℕ → Concept → Type 0
     ByForm c (Concept.And l) = value c ≡ every (map value l)
-    ByForm c Concept.Top = value c ≡ answer_of q label Concept.Top
-    ByForm c Concept.Bot = value c ≡ answer_of q label Concept.Bot
-    ByForm c (Concept.Atomic k) = value c ≡ answer_of q label (Concept.Atomic k)
-    ByForm c (Concept.Nominal i) = value c ≡ answer_of q label (Concept.Nominal i)
-    ByForm c (Concept.SelfRestriction r) = value c ≡ answer_of q label (Concept.SelfRestriction r)
-    ByForm c (Concept.Not b) = value c ≡ answer_of q label (Concept.Not b)
-    ByForm c (Concept.Or l) = value c ≡ answer_of q label (Concept.Or l)
-    ByForm c (Concept.Some r b) = value c ≡ answer_of q label (Concept.Some r b)
-    ByForm c (Concept.All r b) = value c ≡ answer_of q label (Concept.All r b)
-    ByForm c (Concept.Min m r b) = value c ≡ answer_of q label (Concept.Min m r b)
-    ByForm c (Concept.Max m r b) = value c ≡ answer_of q label (Concept.Max m r b)
+    ByForm c Concept.Top = value c ≡ answer_of q Concept.Top
+    ByForm c Concept.Bot = value c ≡ answer_of q Concept.Bot
+    ByForm c (Concept.Atomic k) = value c ≡ answer_of q (Concept.Atomic k)
+    ByForm c (Concept.Nominal i) = value c ≡ answer_of q (Concept.Nominal i)
+    ByForm c (Concept.SelfRestriction r) = value c ≡ answer_of q (Concept.SelfRestriction r)
+    ByForm c (Concept.Not b) = value c ≡ answer_of q (Concept.Not b)
+    ByForm c (Concept.Or l) = value c ≡ answer_of q (Concept.Or l)
+    ByForm c (Concept.Some r b) = value c ≡ answer_of q (Concept.Some r b)
+    ByForm c (Concept.All r b) = value c ≡ answer_of q (Concept.All r b)
+    ByForm c (Concept.Min m r b) = value c ≡ answer_of q (Concept.Min m r b)
+    ByForm c (Concept.Max m r b) = value c ≡ answer_of q (Concept.Max m r b)
 
     and-true : (b : Bool) → b ≡ (b && true)
     and-true true = refl
     and-true false = refl
 
-    leaf-step : (c : ℕ) (k : Concept) → k ≡ concept_at D c → value c ≡ answer_of q label k → value c ≡ every (map (answer D q label) (c ∷ []))
+    leaf-step : (c : ℕ) (k : Concept) → k ≡ concept_at D c → value c ≡ answer_of q k → value c ≡ every (map (answer D q) (c ∷ []))
     unfolding every answer
-    leaf-step c k e h = h ∙ ap (answer_of q label) e ∙ and-true (answer_of q label (concept_at D c))
+    leaf-step c k e h = h ∙ ap (answer_of q) e ∙ and-true (answer_of q (concept_at D c))
 
-    form-step : (c : ℕ) (k : Concept) → k ≡ concept_at D c → ConceptFits (counts_in D) c k → ByForm c k → ((o : ℕ) → o < c → value o ≡ every_leaf D q label o) → value c ≡ every (map (answer D q label) (leaves_of c k (leaves D)))
+    form-step : (c : ℕ) (k : Concept) → k ≡ concept_at D c → ConceptFits (counts_in D) c k → ByForm c k → ((o : ℕ) → o < c → value o ≡ every_leaf D q o) → value c ≡ every (map (answer D q) (leaves_of c k (leaves D)))
     unfolding leaves_of every_leaf
-    form-step c (Concept.And l) e f h ih = h ∙ ap every (map_same value (λ o. every (map (answer D q label) (leaves D o))) l (λ o m. ih o (each_below c l f o m))) ∙ sym (every-flat (answer D q label) (leaves D) l)
+    form-step c (Concept.And l) e f h ih = h ∙ ap every (map_same value (λ o. every (map (answer D q) (leaves D o))) l (λ o m. ih o (each_below c l f o m))) ∙ sym (every-flat (answer D q) (leaves D) l)
     form-step c Concept.Top e f h ih = leaf-step c Concept.Top e h
     form-step c Concept.Bot e f h ih = leaf-step c Concept.Bot e h
     form-step c (Concept.Atomic k) e f h ih = leaf-step c (Concept.Atomic k) e h
@@ -108,12 +110,12 @@ module _ (D : Deck) (W : Sound D) where
     form-step c (Concept.Min m r b) e f h ih = leaf-step c (Concept.Min m r b) e h
     form-step c (Concept.Max m r b) e f h ih = leaf-step c (Concept.Max m r b) e h
 
-    by-leaves : ((c : ℕ) → ByForm c (concept_at D c)) → (c : ℕ) → value c ≡ every_leaf D q label c
+    by-leaves : ((c : ℕ) → ByForm c (concept_at D c)) → (c : ℕ) → value c ≡ every_leaf D q c
     unfolding every_leaf
-    by-leaves h = falling (λ c. value c ≡ every (map (answer D q label) (leaves D c))) (λ c ih. form-step c (concept_at D c) refl (fits D W c) (h c) ih ∙ ap (λ (l : List ℕ). every (map (answer D q label) l)) (sym (leaves_at c)))
+    by-leaves h = falling (λ c. value c ≡ every (map (answer D q) (leaves D c))) (λ c ih. form-step c (concept_at D c) refl (fits D W c) (h c) ih ∙ ap (λ (l : List ℕ). every (map (answer D q) l)) (sym (leaves_at c)))
 
   -- the three questions
-  universal-form : (c : ℕ) (k : Concept) → universal D c ≡ universal_of k (universal D) → ByForm Universal [] (universal D) c k
+  universal-form : (c : ℕ) (k : Concept) → universal D c ≡ universal_of k (universal D) → ByForm Universal (universal D) c k
   unfolding universal_of
   universal-form c (Concept.And l) h = h
   universal-form c Concept.Top h = h
@@ -128,19 +130,19 @@ module _ (D : Deck) (W : Sound D) where
   universal-form c (Concept.Min m r b) h = h
   universal-form c (Concept.Max m r b) h = h
 
-  pub universal-leaves : (c : ℕ) → universal D c ≡ every_leaf D Universal [] c
-  universal-leaves = by-leaves Universal [] (universal D) (λ c. universal-form c (concept_at D c) (universal-at D W c))
+  pub universal-leaves : (c : ℕ) → universal D c ≡ every_leaf D Universal c
+  universal-leaves = by-leaves Universal (universal D) (λ c. universal-form c (concept_at D c) (universal-at D W c))
 
-  module _ (e : Element) (label : List ℕ) where
+  module _ (label : Bor (List ℕ)) where
     abbrev holds : List ℕ → Bool
-    holds ks = every (map (label_has label) ks)
+    holds ks = every (map (label_has label.now) ks)
 
-    holds-form : (c : ℕ) (k : Concept) → required_atoms D c ≡ atoms_of k (required_atoms D) → ByForm (Held e) label (λ c. holds (required_atoms D c)) c k
+    holds-form : (c : ℕ) (k : Concept) → required_atoms D c ≡ atoms_of k (required_atoms D) → ByForm (Held label) (λ c. holds (required_atoms D c)) c k
     unfolding atoms_of every
-    holds-form c (Concept.And l) h = ap holds h ∙ every-flat (label_has label) (required_atoms D) l
+    holds-form c (Concept.And l) h = ap holds h ∙ every-flat (label_has label.now) (required_atoms D) l
     holds-form c Concept.Top h = ap holds h
     holds-form c Concept.Bot h = ap holds h
-    holds-form c (Concept.Atomic k) h = ap holds h ∙ sym (and-true (Held e) label (λ o. true) (label_has label k))
+    holds-form c (Concept.Atomic k) h = ap holds h ∙ sym (and-true (Held label) (λ o. true) (label_has label.now k))
     holds-form c (Concept.Nominal i) h = ap holds h
     holds-form c (Concept.SelfRestriction r) h = ap holds h
     holds-form c (Concept.Not b) h = ap holds h
@@ -150,9 +152,9 @@ module _ (D : Deck) (W : Sound D) where
     holds-form c (Concept.Min m r b) h = ap holds h
     holds-form c (Concept.Max m r b) h = ap holds h
 
-    pub holds-leaves : (c : ℕ) → holds_atoms D label c ≡ every_leaf D (Held e) label c
+    pub holds-leaves : (c : ℕ) → holds_atoms D label.now c ≡ every_leaf D (Held label) c
     unfolding holds_atoms
-    holds-leaves = by-leaves (Held e) label (λ c. holds (required_atoms D c)) (λ c. holds-form c (concept_at D c) (atoms-at D W c))
+    holds-leaves = by-leaves (Held label) (λ c. holds (required_atoms D c)) (λ c. holds-form c (concept_at D c) (atoms-at D W c))
 
   -- its required atoms are those of its leaves
   leaf-atoms : (c : ℕ) → leaves D c ≡ c ∷ [] → required_atoms D c ≡ flat_map (required_atoms D) (leaves D c)
@@ -186,7 +188,7 @@ module _ (D : Deck) (W : Sound D) where
       go true h = refl
       go false h = h
 
-  none-form : (c : ℕ) (k : Concept) → required_atoms D c ≡ atoms_of k (required_atoms D) → ByForm Atomless [] (λ c. not (some_in (required_atoms D c))) c k
+  none-form : (c : ℕ) (k : Concept) → required_atoms D c ≡ atoms_of k (required_atoms D) → ByForm Atomless (λ c. not (some_in (required_atoms D c))) c k
   unfolding atoms_of
   none-form c (Concept.And l) h = ap (λ (ks : List ℕ). not (some_in ks)) h ∙ ap not (some-flat (required_atoms D) l) ∙ not-any (λ o. some_in (required_atoms D o)) l
   none-form c Concept.Top h = ap (λ (ks : List ℕ). not (some_in ks)) h
@@ -201,14 +203,14 @@ module _ (D : Deck) (W : Sound D) where
   none-form c (Concept.Min m r b) h = ap (λ (ks : List ℕ). not (some_in ks)) h
   none-form c (Concept.Max m r b) h = ap (λ (ks : List ℕ). not (some_in ks)) h
 
-  pub atom-leaves : (c : ℕ) → not (has_atom D c) ≡ every_leaf D Atomless [] c
+  pub atom-leaves : (c : ℕ) → not (has_atom D c) ≡ every_leaf D Atomless c
   unfolding has_atom
-  atom-leaves = by-leaves Atomless [] (λ c. not (some_in (required_atoms D c))) (λ c. none-form c (concept_at D c) (atoms-at D W c))
+  atom-leaves = by-leaves Atomless (λ c. not (some_in (required_atoms D c))) (λ c. none-form c (concept_at D c) (atoms-at D W c))
 
 -- a concept that leads to itself only
-pub every-leaf-one : (D : Deck) (q : Question) (label : List ℕ) (c : ℕ) → leaves D c ≡ c ∷ [] → answer D q label c ≡ every_leaf D q label c
+pub every-leaf-one : (D : Deck) (q : Question) (c : ℕ) → leaves D c ≡ c ∷ [] → answer D q c ≡ every_leaf D q c
 unfolding every_leaf every
-every-leaf-one D q label c e = rw e (both_true (answer D q label c))
+every-leaf-one D q c e = rw e (both_true (answer D q c))
   where
     both_true : (b : Bool) → b ≡ (b && true)
     both_true true = refl
@@ -279,20 +281,20 @@ module _ (s : List ℕ) (A : IsAccepted s) (c : ℕ) {expr : ConceptExpr} (R : C
       none (ConceptExpr.Max m r b) h f = refl
 
   -- its answer, where it is no And
-  answer-read : (q : Question) (label : List ℕ) (v : ConceptExpr) → expr ≡ v → answer_of q label (expr_of s v) ≡ answer (deck_of s) q label c
+  answer-read : (q : Question) (v : ConceptExpr) → expr ≡ v → answer_of q (expr_of s v) ≡ answer (deck_of s) q c
   unfolding answer
-  answer-read q label v p = ap (answer_of q label) (read_is s A c R v p)
+  answer-read q v p = ap (answer_of q) (read_is s A c R v p)
 
-  pub answer-top : (q : Question) (label : List ℕ) → expr ≡ ConceptExpr.Top → true ≡ answer (deck_of s) q label c
-  answer-top q label p = answer-read q label _ p
+  pub answer-top : (q : Question) → expr ≡ ConceptExpr.Top → true ≡ answer (deck_of s) q c
+  answer-top q p = answer-read q _ p
 
-  pub answer-atom : (q : Question) (label : List ℕ) (k : ClassId) → expr ≡ ConceptExpr.Atomic k → holds_atom q label k.0 ≡ answer (deck_of s) q label c
-  answer-atom q label k p = answer-read q label _ p
+  pub answer-atom : (q : Question) (k : ClassId) → expr ≡ ConceptExpr.Atomic k → holds_atom q k.0 ≡ answer (deck_of s) q c
+  answer-atom q k p = answer-read q _ p
 
-  pub answer-other : (q : Question) (label : List ℕ) → OneOf (1 ∷ 3 ∷ 4 ∷ 5 ∷ 6 ∷ 7 ∷ 8 ∷ 9 ∷ 10 ∷ 11 ∷ []) (tag_of the_type expr) → allows q ≡ answer (deck_of s) q label c
-  answer-other q label h = allowed expr h ∙ answer-read q label expr refl
+  pub answer-other : (q : Question) → OneOf (1 ∷ 3 ∷ 4 ∷ 5 ∷ 6 ∷ 7 ∷ 8 ∷ 9 ∷ 10 ∷ 11 ∷ []) (tag_of the_type expr) → allows q ≡ answer (deck_of s) q c
+  answer-other q h = allowed expr h ∙ answer-read q expr refl
     where
-      allowed : (v : ConceptExpr) → OneOf (1 ∷ 3 ∷ 4 ∷ 5 ∷ 6 ∷ 7 ∷ 8 ∷ 9 ∷ 10 ∷ 11 ∷ []) (tag_of the_type v) → allows q ≡ answer_of q label (expr_of s v)
+      allowed : (v : ConceptExpr) → OneOf (1 ∷ 3 ∷ 4 ∷ 5 ∷ 6 ∷ 7 ∷ 8 ∷ 9 ∷ 10 ∷ 11 ∷ []) (tag_of the_type v) → allows q ≡ answer_of q (expr_of s v)
       allowed ConceptExpr.Top h = absurd (miss (1 ∷ 3 ∷ 4 ∷ 5 ∷ 6 ∷ 7 ∷ 8 ∷ 9 ∷ 10 ∷ 11 ∷ []) 0 tt h)
       allowed ConceptExpr.Bot h = refl
       allowed (ConceptExpr.Atomic k) h = absurd (miss (1 ∷ 3 ∷ 4 ∷ 5 ∷ 6 ∷ 7 ∷ 8 ∷ 9 ∷ 10 ∷ 11 ∷ []) 2 tt h)
@@ -307,12 +309,12 @@ module _ (s : List ℕ) (A : IsAccepted s) (c : ℕ) {expr : ConceptExpr} (R : C
       allowed (ConceptExpr.Max m r b) h = refl
 
   -- the answers of all that it leads to
-  pub every-leaf-and : (q : Question) (label : List ℕ) (l : Span) → expr ≡ ConceptExpr.And l → every (map (every_leaf (deck_of s) q label) (list_of s l)) ≡ every_leaf (deck_of s) q label c
+  pub every-leaf-and : (q : Question) (l : Span) → expr ≡ ConceptExpr.And l → every (map (every_leaf (deck_of s) q) (list_of s l)) ≡ every_leaf (deck_of s) q c
   unfolding every_leaf
-  every-leaf-and q label l p = sym (every-flat (answer (deck_of s) q label) (leaves (deck_of s)) (list_of s l)) ∙ ap (λ (xs : List ℕ). every (map (answer (deck_of s) q label) xs)) (leaves-and l p)
+  every-leaf-and q l p = sym (every-flat (answer (deck_of s) q) (leaves (deck_of s)) (list_of s l)) ∙ ap (λ (xs : List ℕ). every (map (answer (deck_of s) q) xs)) (leaves-and l p)
 
-  pub every-leaf-other : (q : Question) (label : List ℕ) → OneOf (0 ∷ 1 ∷ 2 ∷ 3 ∷ 4 ∷ 5 ∷ 7 ∷ 8 ∷ 9 ∷ 10 ∷ 11 ∷ []) (tag_of the_type expr) → answer (deck_of s) q label c ≡ every_leaf (deck_of s) q label c
-  every-leaf-other q label h = every-leaf-one (deck_of s) q label c (sym (leaves-other h))
+  pub every-leaf-other : (q : Question) → OneOf (0 ∷ 1 ∷ 2 ∷ 3 ∷ 4 ∷ 5 ∷ 7 ∷ 8 ∷ 9 ∷ 10 ∷ 11 ∷ []) (tag_of the_type expr) → answer (deck_of s) q c ≡ every_leaf (deck_of s) q c
+  every-leaf-other q h = every-leaf-one (deck_of s) q c (sym (leaves-other h))
 
 -- ---- lists with the same members
 pub has-append : (xs ys : List ℕ) (x : ℕ) → has (xs ++ ys) x ≡ (has xs x || has ys x)
@@ -343,16 +345,18 @@ pub every-same : (p : ℕ → Bool) (xs ys : List ℕ) → Same xs ys → every 
 every-same p xs ys S = same_truth (every (map p xs)) (every (map p ys)) (λ h. all-every p ys (λ x q. every-has p xs h x (S x ∙ q))) (λ h. all-every p xs (λ x q. every-has p ys h x (sym (S x) ∙ q)))
 
 -- ---- the walk downward
-pub mark-below : (marks : List ℕ) (i : ℕ) → i ≤ 16384 → highest_mark marks i < 16384 → highest_mark marks i < i
+pub mark-below : (marks : List ℕ) (i : ℕ) {k : ConceptId} → highest_mark marks i ≡ Some k → k.0 < i
 unfolding highest_mark
-mark-below marks zero h l = absurd (omega (arith, l))
-mark-below marks (suc i) h l = go (label_has marks i) (mark-below marks i (omega (arith, h))) l
+mark-below marks zero e = clash (cc)
+mark-below marks (suc i) {k} e = go (label_has marks i) e (λ f. mark-below marks i f)
   where
-    go : (b : Bool) → (highest_mark marks i < 16384 → highest_mark marks i < i) → cond b i (highest_mark marks i) < 16384 → cond b i (highest_mark marks i) < suc i
-    go true ih l = omega arith
-    go false ih l = omega (arith, ih l)
+    go : (b : Bool) → cond b (Some (record { 0 = i })) (highest_mark marks i) ≡ Some k → (highest_mark marks i ≡ Some k → k.0 < i) → k.0 < suc i
+    go true e ih =
+        let q : record { 0 = i } ≡ k = cc in
+        omega (arith, ap (λ (c : ConceptId). c.0) q)
+    go false e ih = omega (arith, ih e)
 
-pub mark-none : (marks : List ℕ) (k : ℕ) → k ≤ 0 → highest_mark marks k ≡ 16384
+pub mark-none : (marks : List ℕ) (k : ℕ) → k ≤ 0 → highest_mark marks k ≡ None
 unfolding highest_mark
 mark-none marks zero h = refl
 mark-none marks (suc k) h = absurd (omega (arith, h))
@@ -362,7 +366,7 @@ unfolding highest_mark
 mark-skip marks zero h e = absurd (omega (arith, h))
 mark-skip marks (suc k) h e = let p : suc k - 1 ≡ k = omega arith in rw (p, rw p at e)
 
-pub mark-here : (marks : List ℕ) (k : ℕ) → 0 < k → label_has marks (k - 1) ≡ true → highest_mark marks k ≡ k - 1
+pub mark-here : (marks : List ℕ) (k : ℕ) → 0 < k → label_has marks (k - 1) ≡ true → highest_mark marks k ≡ Some (record { 0 = k - 1 })
 unfolding highest_mark
 mark-here marks zero h e = absurd (omega (arith, h))
 mark-here marks (suc k) h e = let p : suc k - 1 ≡ k = omega arith in rw (p, rw p at e)
@@ -438,13 +442,18 @@ mark-skip-word marks k h r z =
     ap (highest_mark marks) a ∙ skip-word marks 64 (k / 64 - 1) (omega arith) z ∙ ap (highest_mark marks) b
 
 module _ (D : Deck) where
-  pub pending_next : (marks : List ℕ) (i : ℕ) → i ≤ 16384 → pending D marks i ≡ cond (ltb (highest_mark marks i) 16384) (leaves D (highest_mark marks i) ++ pending D marks (highest_mark marks i)) []
+  -- what a mark leads to, where there is one, and what those below it do
+  abbrev from_mark : List ℕ → Option ConceptId → List ℕ
+  from_mark marks None = []
+  from_mark marks (Some k) = leaves D k.0 ++ pending D marks k.0
+
+  pub pending_next : (marks : List ℕ) (i : ℕ) → pending D marks i ≡ from_mark marks (highest_mark marks i)
   unfolding pending highest_mark
-  pending_next marks zero h = refl
-  pending_next marks (suc i) h = go (label_has marks i) (pending_next marks i (omega (arith, h)))
+  pending_next marks zero = refl
+  pending_next marks (suc i) = go (label_has marks i) (pending_next marks i)
     where
-      go : (b : Bool) → pending D marks i ≡ cond (ltb (highest_mark marks i) 16384) (leaves D (highest_mark marks i) ++ pending D marks (highest_mark marks i)) [] → cond b (leaves D i ++ pending D marks i) (pending D marks i) ≡ cond (ltb (cond b i (highest_mark marks i)) 16384) (leaves D (cond b i (highest_mark marks i)) ++ pending D marks (cond b i (highest_mark marks i))) []
-      go true ih = rw (lt-ltb i 16384 (omega (arith, h)))
+      go : (b : Bool) → pending D marks i ≡ from_mark marks (highest_mark marks i) → cond b (leaves D i ++ pending D marks i) (pending D marks i) ≡ from_mark marks (cond b (Some (record { 0 = i })) (highest_mark marks i))
+      go true ih = refl
       go false ih = ih
 
   -- what is pending, number by number
@@ -486,88 +495,82 @@ module _ (D : Deck) where
   pending-none w zero = refl
   pending-none w (suc i) = rw (none_has w i) (pending-none w i)
 
-  -- ---- from one leaf to the next: the walk stands at mark k, which is not looked at yet
-  pub record Walking (was : List ℕ) (i : ℕ) (marks : List ℕ) (k : ℕ) : Type 0 where
+  -- ---- from one leaf to the next: what is marked below a number is not looked at yet
+  pub record Walking (was : List ℕ) (i : ℕ) (marks : List ℕ) (below : ℕ) : Type 0 where
     pub wide : length marks ≡ length was
-    pub down : k < 16384 → k < i
-    pub same : Same (pending D was i) (cond (ltb k 16384) (leaves D k ++ pending D marks k) [])
+    pub down : below ≤ i
+    pub same : Same (pending D was i) (pending D marks below)
 
-  pub walking_start : (was : List ℕ) (i : ℕ) → i ≤ 16384 → {k : ℕ} → k ≡ highest_mark was i → Walking was i was k
-  walking_start was i h {k} e = record {
-    wide = refl;
-    down = λ l. rw e (mark-below was i h (rw e at l));
-    same = λ x. ap (λ (xs : List ℕ). has xs x) (pending_next was i h ∙ rw e refl);
-  }
+  pub walking_start : (was : List ℕ) (i : ℕ) → Walking was i was i
+  walking_start was i = record { wide = refl; down = omega arith; same = λ x. refl }
 
-  -- at an And
-  pub walking-next : {was : List ℕ} {i : ℕ} {marks : List ℕ} {k : ℕ} → Walking was i marks k → k < 16384 → (l : List ℕ) → flat_map (leaves D) l ≡ leaves D k → ((j : ℕ) → j < length l → get_or l j 0 < k) → k ≤ length marks * 64
-      → {marks' : List ℕ} → marks' ≡ insert_all marks l → {k' : ℕ} → k' ≡ highest_mark marks' k → Walking was i marks' k'
-  walking-next {was} {i} {marks} {k} G h l e b w {marks'} m {k'} q = record {
-    wide = ap length m ∙ length-insert-all marks l ∙ G.wide;
-    down = λ z. omega (arith, G.down h, mark-below marks' k (omega (arith, h)) (rw q at z), q);
-    same = λ x.
-        G.same x ∙ ap (λ (c : Bool). has (cond c (leaves D k ++ pending D marks k) []) x) (lt-ltb k 16384 h) ∙ ap (λ (xs : List ℕ). has (xs ++ pending D marks k) x) (sym e)
-        ∙ pending-marked marks l k w b x ∙ ap (λ (ys : List ℕ). has (pending D ys k) x) (sym m) ∙ ap (λ (xs : List ℕ). has xs x) (pending_next marks' k (omega (arith, h)) ∙ rw q refl);
-  }
+  module _ {was : List ℕ} {i : ℕ} {marks : List ℕ} {below : ℕ} (G : Walking was i marks below) where
+    at-mark : {o : Option ConceptId} → o ≡ highest_mark marks below → Same (pending D was i) (from_mark marks o)
+    at-mark e x = G.same x ∙ ap (λ (xs : List ℕ). has xs x) (pending_next marks below ∙ ap (from_mark marks) (sym e))
 
-  -- at a leaf, and at the end
-  pub walking-leaf : {was : List ℕ} {i : ℕ} {marks : List ℕ} {k : ℕ} → Walking was i marks k → k < 16384 → k ∷ [] ≡ leaves D k → IsLeaf (concept_at D k) → Next D was i marks k
-  walking-leaf {was} {i} {marks} {k} G h e f = record {
-    same = λ x. G.same x ∙ ap (λ (xs : List ℕ). has (cond (ltb k 16384) (xs ++ pending D marks k) []) x) (sym e);
-    down = G.down;
-    leaf = λ l. f;
-    wide = G.wide;
-  }
+    module _ {k : ConceptId} (e : Some k ≡ highest_mark marks below) where
+      pub walking-down : k.0 < below
+      walking-down = mark-below marks below (sym e)
 
-  pub walking-end : {was : List ℕ} {i : ℕ} {marks : List ℕ} {k : ℕ} → Walking was i marks k → 16384 ≤ k → Next D was i marks 16384
-  walking-end {was} {i} {marks} {k} G h = record {
-    same = λ x. G.same x ∙ ap (λ (c : Bool). has (cond c (leaves D k ++ pending D marks k) []) x) (le-ltb k 16384 h);
-    down = λ l. absurd (omega (arith, l));
-    leaf = λ l. absurd (omega (arith, l));
-    wide = G.wide;
-  }
+      -- at an And
+      pub walking-next : (l : List ℕ) → flat_map (leaves D) l ≡ leaves D k.0 → ((j : ℕ) → j < length l → get_or l j 0 < k.0) → k.0 ≤ length marks * 64 → {marks' : List ℕ} → marks' ≡ insert_all marks l → Walking was i marks' k.0
+      walking-next l q b w {marks'} m = record {
+        wide = ap length m ∙ length-insert-all marks l ∙ G.wide;
+        down = omega (arith, G.down, walking-down);
+        same = λ x.
+            at-mark e x ∙ ap (λ (xs : List ℕ). has (xs ++ pending D marks k.0) x) (sym q)
+            ∙ pending-marked marks l k.0 w b x ∙ ap (λ (ys : List ℕ). has (pending D ys k.0) x) (sym m);
+      }
 
-  -- each step goes down, the last one to the end
-  pub walk-less : (was : List ℕ) {i k : ℕ} → k ≡ highest_mark was i → i < 16384 → cond (ltb k 16384) (suc k) 0 < cond (ltb i 16384) (suc i) 0
-  walk-less was {i} {k} e h =
-      ⊎_elim (λ (l : k < 16384). rw (lt-ltb k 16384 l, lt-ltb i 16384 h) (omega (arith, mark-below was i (omega (arith, h)) (rw e at l), e)))
-      (λ (g : 16384 ≤ k). rw (le-ltb k 16384 g, lt-ltb i 16384 h) (omega arith)) (lt-or-le k 16384)
+      -- at a leaf
+      pub walking-leaf : k.0 ∷ [] ≡ leaves D k.0 → IsLeaf (concept_at D k.0) → Next D was i marks (Some k)
+      walking-leaf q f = record {
+        same = λ x. at-mark e x ∙ ap (λ (xs : List ℕ). has (xs ++ pending D marks k.0) x) (sym q);
+        down = omega (arith, G.down, walking-down);
+        leaf = f;
+        wide = G.wide;
+      }
+
+    -- at the end
+    pub walking-end : None ≡ highest_mark marks below → Next D was i marks None
+    walking-end e = record { same = at-mark e; down = tt; leaf = tt; wide = G.wide }
+
+  -- a walk begins with all that the operands lead to
+  pub begins : (w : ℕ) (l : List ℕ) (i : ℕ) → i ≤ w * 64 → ((j : ℕ) → j < length l → get_or l j 0 < i) → {was : List ℕ} → was ≡ insert_all (replicate w 0) l → Same (flat_map (leaves D) l) (pending D was i)
+  unfolding has
+  begins w l i h b {was} m x =
+      sym (or-false (has (flat_map (leaves D) l) x)) ∙ ap (λ (xs : List ℕ). has (flat_map (leaves D) l) x || has xs x) (sym (pending-none w i)) ∙ sym (has-append (flat_map (leaves D) l) (pending D (replicate w 0) i) x)
+      ∙ pending-marked (replicate w 0) l i (rw (length-replicate {A = ℕ} w 0) h) b x ∙ ap (λ (ys : List ℕ). has (pending D ys i) x) (sym m)
 
   -- ---- a question of all that a walk still has before it
   abbrev asks : (ℕ → Bool) → List ℕ → ℕ → Bool
-  asks p marks k = every (map p (and_below D marks k))
+  asks p marks i = every (map p (pending D marks i))
 
-  -- a walk begins with all that the operands lead to
-  pub begins : (w : ℕ) (l : List ℕ) (i : ℕ) → i ≤ w * 64 → ((j : ℕ) → j < length l → get_or l j 0 < i) → {was : List ℕ} → was ≡ insert_all (replicate w 0) l → {marks : List ℕ} {k : ℕ} → Next D was i marks k → Same (flat_map (leaves D) l) (and_below D marks k)
-  unfolding has
-  begins w l i h b {was} m {marks} {k} N x =
-      sym (or-false (has (flat_map (leaves D) l) x)) ∙ ap (λ (xs : List ℕ). has (flat_map (leaves D) l) x || has xs x) (sym (pending-none w i)) ∙ sym (has-append (flat_map (leaves D) l) (pending D (replicate w 0) i) x)
-      ∙ pending-marked (replicate w 0) l i (rw (length-replicate {A = ℕ} w 0) h) b x ∙ ap (λ (ys : List ℕ). has (pending D ys i) x) (sym m) ∙ N.same x
+  module _ (p : ℕ → Bool) {was : List ℕ} {i : ℕ} {marks : List ℕ} where
+    module _ {k : ConceptId} (N : Next D was i marks (Some k)) where
+      pub asks-next : p k.0 ≡ true → asks p was i ≡ asks p marks k.0
+      unfolding every
+      asks-next e = every-same p (pending D was i) (k.0 ∷ pending D marks k.0) N.same ∙ rw e
 
-  pub asks-next : (p : ℕ → Bool) {was : List ℕ} {i : ℕ} → i < 16384 → p i ≡ true → {marks : List ℕ} {k : ℕ} → Next D was i marks k → asks p was i ≡ asks p marks k
-  unfolding every
-  asks-next p {was} {i} h e {marks} {k} N = rw (lt-ltb i 16384 h, e) (every-same p (pending D was i) (and_below D marks k) N.same)
+      pub asks-stop : p k.0 ≡ false → asks p was i ≡ false
+      unfolding every
+      asks-stop e = every-same p (pending D was i) (k.0 ∷ pending D marks k.0) N.same ∙ rw e
 
-  pub asks-stop : (p : ℕ → Bool) (marks : List ℕ) (k : ℕ) → k < 16384 → p k ≡ false → asks p marks k ≡ false
-  unfolding every
-  asks-stop p marks k h e = rw (lt-ltb k 16384 h, e)
+    pub asks-end : Next D was i marks None → asks p was i ≡ true
+    unfolding every
+    asks-end N = every-same p (pending D was i) [] N.same
 
-  pub asks-end : (p : ℕ → Bool) (marks : List ℕ) (k : ℕ) → 16384 ≤ k → asks p marks k ≡ true
-  unfolding every
-  asks-end p marks k h = rw (le-ltb k 16384 h)
+  -- what a walk begins with
+  pub asks-start : (q : Question) (l was : List ℕ) (i : ℕ) → Same (flat_map (leaves D) l) (pending D was i) → every (map (every_leaf D q) l) ≡ asks (answer D q) was i
+  unfolding every_leaf
+  asks-start q l was i S = sym (every-flat (answer D q) (leaves D) l) ∙ every-same (answer D q) _ _ S
 
-  -- the operands from one on, which the walk begins with
+  -- the operands from one on
   pub dropped-below : (n first : ℕ) (l : List ℕ) → ((j : ℕ) → j < length l → get_or l j 0 < n) → (j : ℕ) → j < length (drop first l) → get_or (drop first l) j 0 < n
   dropped-below n first l b j h = rw (get_or-drop first l j 0) (b (first + j) (omega (arith, h, length-drop first l)))
 
-  pub asks-operands : (q : Question) (label : List ℕ) (l : List ℕ) (first i : ℕ) → i ≤ 16384 → ((j : ℕ) → j < length l → get_or l j 0 < i) → {none was : List ℕ} → none ≡ replicate 256 0 → was ≡ insert_all none (drop first l)
-      → {marks : List ℕ} {k : ℕ} → Next D was i marks k → every (map (every_leaf D q label) (drop first l)) ≡ asks (answer D q label) marks k
-  unfolding every_leaf
-  asks-operands q label l first i h b {none} {was} z m N =
-      sym (every-flat (answer D q label) (leaves D) (drop first l)) ∙ every-same (answer D q label) _ _ (begins 256 (drop first l) i h (dropped-below i first l b) (m ∙ ap (λ (x : List ℕ). insert_all x (drop first l)) z) N)
-
-  -- each step goes down
-  pub next-less : {was : List ℕ} {i : ℕ} {marks : List ℕ} {k : ℕ} → Next D was i marks k → i < 16384 → cond (ltb k 16384) (suc k) 0 < cond (ltb i 16384) (suc i) 0
-  next-less {was} {i} {marks} {k} N h =
-      ⊎_elim (λ (l : k < 16384). rw (lt-ltb k 16384 l, lt-ltb i 16384 h) (omega (arith, N.down l)))
-      (λ (g : 16384 ≤ k). rw (le-ltb k 16384 g, lt-ltb i 16384 h) (omega arith)) (lt-or-le k 16384)
+-- marks for all concepts
+pub marks-reach : (s : List ℕ) → IsAccepted s → {marks : List ℕ} → marks ≡ replicate 256 0 → {k : ℕ} → k < concept_count (deck_of s) → (k < 16384) × (k < length marks * 64)
+marks-reach s A {marks} z {k} h =
+    let n = (limited s A).concepts in
+    let w = ap length z ∙ length-replicate {A = ℕ} 256 0 in (omega (arith, n, h), omega (arith, n, h, w))

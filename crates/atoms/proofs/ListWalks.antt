@@ -1,15 +1,16 @@
 -- Walks over lists, as loops take them: what is still to come is `drop i l`.
 -- Assumes nothing.
 use Prim.Native.Nat.{ℕ, zero, suc, ◌+◌, ◌<◌, ◌≤◌}
-use mathlib.Core.Bool.{Bool, true, false}
+use mathlib.Core.Bool.{Bool, true, false, ◌&&◌, ◌||◌}
 use mathlib.Core.Path.{◌≡◌, refl, sym, ap, ◌∙◌}
 use mathlib.Core.List.Memᴰ.{head as here}
 use mathlib.Core.List.Memᴰ.{tail as there}
 use mathlib.Core.List.{List, [], ◌∷◌, ◌++◌, map, flat_map, append_assoc, Memᴰ as Member}
 use mathlib.Core.Logic.{⊎_elim}
-use native.Mathlib.Nat.{eq-or-lt_of_le}
+use native.Mathlib.Nat.{eq-or-lt_of_le, add-zero, zero-add}
 use native.Mathlib.Omega.{arith}
 use lib.ListN.{length, get_or, drop, drop_of_length-le}
+use Rattle.std.specs.List.{list_any, list_all, range_with_len}
 use Rattle.deck.specs.Below.{any_below}
 use Rattle.eval.specs.Lists.{every, any}
 use Rattle.eval.proofs.Walks.{list-step}
@@ -40,6 +41,32 @@ pub any-mono : (p : ℕ → Bool) (n m : ℕ) → n ≤ m → any_below p n ≡ 
 unfolding any_below
 any-mono p n zero h a = let e : n ≡ 0 = omega arith in rw e at a
 any-mono p n (suc m) h a = ⊎_elim (λ (e : n ≡ suc m). rw e at a) (λ (l : n < suc m). rw (any-mono p n m (omega arith) a)) (eq-or-lt_of_le h)
+
+-- ---- a list that a chain reads place by place
+module _ (p : ℕ → Bool) where
+  all_from : (l : List ℕ) (k : ℕ) (at : ℕ → ℕ) → ((i : ℕ) → i < length l → at (k + i) ≡ get_or l i 0) → list_all (λ i. p (at i)) (range_with_len k (length l)) ≡ every (map p l)
+  unfolding every
+  all_from [] k at h = refl
+  all_from (x ∷ xs) k at h =
+      let first : at k ≡ x = ap at (sym (add-zero k)) ∙ h 0 (omega arith) in
+      let next : (i : ℕ) → k + 1 + i ≡ k + suc i = λ i. omega arith in
+      ap (λ (y : ℕ). p y && list_all (λ i. p (at i)) (range_with_len (k + 1) (length xs))) first
+      ∙ ap (λ (b : Bool). p x && b) (all_from xs (k + 1) at (λ i l. ap at (next i) ∙ h (suc i) (omega (arith, l))))
+
+  any_from : (l : List ℕ) (k : ℕ) (at : ℕ → ℕ) → ((i : ℕ) → i < length l → at (k + i) ≡ get_or l i 0) → list_any (λ i. p (at i)) (range_with_len k (length l)) ≡ any (map p l)
+  unfolding any
+  any_from [] k at h = refl
+  any_from (x ∷ xs) k at h =
+      let first : at k ≡ x = ap at (sym (add-zero k)) ∙ h 0 (omega arith) in
+      let next : (i : ℕ) → k + 1 + i ≡ k + suc i = λ i. omega arith in
+      ap (λ (y : ℕ). p y || list_any (λ i. p (at i)) (range_with_len (k + 1) (length xs))) first
+      ∙ ap (λ (b : Bool). p x || b) (any_from xs (k + 1) at (λ i l. ap at (next i) ∙ h (suc i) (omega (arith, l))))
+
+  pub all-places : (l : List ℕ) (n : ℕ) → length l ≡ n → list_all (λ i. p (get_or l i 0)) (range_with_len 0 n) ≡ every (map p l)
+  all-places l n e = rw (← e) (all_from l 0 (λ i. get_or l i 0) (λ i h. ap (λ (k : ℕ). get_or l k 0) (zero-add i)))
+
+  pub any-places : (l : List ℕ) (n : ℕ) → length l ≡ n → list_any (λ i. p (get_or l i 0)) (range_with_len 0 n) ≡ any (map p l)
+  any-places l n e = rw (← e) (any_from l 0 (λ i. get_or l i 0) (λ i h. ap (λ (k : ℕ). get_or l k 0) (zero-add i)))
 
 -- ---- a walk over a list: all, or one, true; the label that takes in what each gives
 module _ {A : Type 0} (d : A) (l : List A) (i : ℕ) where

@@ -30,10 +30,10 @@ use Rattle.atoms.specs.declared.target_label.Target.{Target}
 use Rattle.atoms.specs.declared.target_label.Target.TheVariants.{Row, Delta, NotClosed}
 use Rattle.atoms.specs.Walk.{walk}
 use Rattle.atoms.specs.Floor.{required_atoms}
-use Rattle.atoms.specs.Reasons.{noted, counted, note, run_delta}
+use Rattle.atoms.specs.Reasons.{noted, counted, note, run_delta, has_room}
 use Rattle.atoms.specs.Target.{target_of}
 use Rattle.atoms.specs.Body.{delta_by, atom_delta}
-use Rattle.atoms.specs.Occurrences.{capped, sum_of, entry_at, logs, has_room, deltas_of, delta_count, noted_deltas, DeltasTo, IsFirst, FirstsTo}
+use Rattle.atoms.specs.Occurrences.{capped, sum_of, entry_at, logs, deltas_of, delta_count, noted_deltas, DeltasTo, IsFirst, FirstsTo}
 use Rattle.atoms.proofs.LabelLaws.{not_so}
 use Rattle.atoms.proofs.ListWalks.{flat-flat}
 use Rattle.atoms.proofs.WalkLaws.{walk-flat}

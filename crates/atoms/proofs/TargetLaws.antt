@@ -2,15 +2,17 @@
 -- Assumes nothing.
 use Prim.Native.Nat.{ℕ, ◌<◌}
 use mathlib.Core.Bool.{Bool, true, false, cond}
-use mathlib.Core.Path.{◌≡◌, subst}
+use mathlib.Core.Path.{◌≡◌, refl, subst}
 use native.Mathlib.Omega.{arith}
 use Rattle.deck.specs.Deck.{Deck, class_at, class_count, injected_class}
 use Rattle.deck.specs.Sound.{Sound}
 use Rattle.deck.specs.Reads.{RealClass}
 use Rattle.deck.specs.declared.numbers.ClassId.{ClassId}
 use Rattle.std.specs.Prelude.{Option, Some, None}
+use Rattle.atoms.specs.declared.target_label.Target.{Target}
 use Rattle.atoms.specs.declared.target_label.Target.TheVariants.{Row, Delta, NotClosed}
-use Rattle.atoms.specs.Target.{holds_range, by_injected, target_of, TargetFits}
+use Rattle.atoms.specs.Target.{holds_range, by_injected, target_of, TargetFits, class_by}
+use Rattle.atoms.specs.Body.{row_by}
 
 module _ (D : Deck) (y : ℕ) where
   module _ (q : Option ClassId) where
@@ -45,3 +47,14 @@ module _ (D : Deck) (y : ℕ) where
     pub target-else : holds_range D y r ≡ false → by_injected D y (injected_class D.injected y r) ≡ target_of D y r
     unfolding target_of
     target-else h = rw h
+
+-- the row that a class gives, by its target
+pub row-by : (D : Deck) (y : ClassId) (t : Target) → row_by D y.0 t ≡ (class_at D (class_by y t).0).row
+row-by D y (Row k) = refl
+row-by D y (Delta k) = refl
+row-by D y NotClosed = refl
+
+pub class-by-fits : (D : Deck) (y : ClassId) (t : Target) → TargetFits D t → y.0 < class_count D → (class_by y t).0 < class_count D
+class-by-fits D y (Row k) f h = f
+class-by-fits D y (Delta k) f h = f
+class-by-fits D y NotClosed f h = h

@@ -1,6 +1,8 @@
 -- The label of the target of a Some, by its body (`body_label`): document 01, section 3.
-use Rattle.std.specs.Prelude.{ℕ, Bool, true, false, cond, ◌≡◌, get_or, replicate}
+use Rattle.std.specs.Prelude.{ℕ, Bool, true, false, cond, ◌≡◌, get_or, replicate, Option, Some, None}
+use Rattle.std.specs.Option.{option_or}
 use mathlib.Core.List.{List, [], ◌∷◌, ◌++◌, map, flat_map}
+use Rattle.deck.specs.declared.numbers.ClassId.{ClassId}
 use Rattle.deck.specs.Deck.{Deck, class_at, role_at}
 use Rattle.eval.specs.Lent.{label_width}
 use Rattle.eval.specs.Lists.{any}
@@ -31,16 +33,16 @@ pub record Joined (l g : List ℕ) (n : ℕ) (s : Body) : Type 0 where
 
 -- one more atom: the first of all is kept
 abbrev pub met : ℕ → Atoms → Atoms
-met a j = record { found = true; first = cond j.found j.first (record { 0 = a }); unclosed = j.unclosed; reasons = j.reasons }
+met a j = record { first = option_or j.first (Some (record { 0 = a })); unclosed = j.unclosed; reasons = j.reasons }
 
 abbrev pub open-too : Atoms → Atoms
-open-too j = record { found = j.found; first = j.first; unclosed = true; reasons = j.reasons }
+open-too j = record { first = j.first; unclosed = true; reasons = j.reasons }
 
 abbrev pub one_more : Atoms → Atoms
-one_more j = record { found = j.found; first = j.first; unclosed = j.unclosed; reasons = counted j.reasons }
+one_more j = record { first = j.first; unclosed = j.unclosed; reasons = counted j.reasons }
 
 abbrev pub no_atoms : ℕ → Atoms
-no_atoms reasons = record { found = false; first = record { 0 = 0 }; unclosed = false; reasons = reasons }
+no_atoms reasons = record { first = None; unclosed = false; reasons = reasons }
 
 -- one more reason after those of the atoms
 abbrev pub noted_in : Reason → Body → Body
@@ -68,8 +70,12 @@ module _ (D : Deck) where
   with_ranges r s = record { label = insert_all s.label (flat_map row_of_class (role_at D r).range); log = s.log; atoms = s.atoms }
 
   -- "and one LabelNotClosed(first atom, r) then follows all of them"
+  abbrev pub close_by : ℕ → Option ClassId → Body → Body
+  close_by r None s = with_ranges r s
+  close_by r (Some a) s = cond s.atoms.unclosed (noted_in (label_not_closed a.0 r) s) s
+
   abbrev pub close_body : ℕ → Body → Body
-  close_body r s = cond s.atoms.found (cond s.atoms.unclosed (noted_in (label_not_closed s.atoms.first.0 r) s) s) (with_ranges r s)
+  close_body r s = close_by r s.atoms.first s
 
   unfoldable pub body_of : ℕ → ℕ → List ℕ → ℕ → Body
   body_of r b log reasons = close_body r (join_atoms r b (record { label = replicate (label_width D) 0; log = log; atoms = no_atoms reasons }))

@@ -1,16 +1,15 @@
 -- What a concept leads to through Ands, and a walk over it from the concept's number downward.
-use Rattle.std.specs.Prelude.{ℕ, zero, suc, ◌*◌, ◌<◌, ◌≤◌, Bool, true, false, cond, ◌≡◌, length, get_or, ltb}
+use Rattle.std.specs.Prelude.{ℕ, zero, suc, ◌<◌, Bool, true, false, cond, ◌≡◌, length, Option, Some, None, IfSome, Result, Ok, Err}
 use mathlib.Core.List.{List, [], ◌∷◌, ◌++◌, map, flat_map}
 use Rattle.deck.specs.Deck.{Deck, Concept, concept_at, has}
+use Rattle.deck.specs.declared.numbers.ConceptId.{ConceptId}
 use Rattle.eval.specs.Lists.{every}
 use Rattle.eval.specs.Numbered.{numbered}
 use Rattle.atoms.specs.declared.leaves.Question.{Question}
 use Rattle.atoms.specs.declared.leaves.Question.TheVariants.{Universal, Atomless, Held}
-use Rattle.atoms.specs.declared.short.Walked.{Walked}
-use Rattle.atoms.specs.declared.short.Walked.TheVariants.{Undecided, No, Yes}
-use Rattle.eval.specs.Lent.{label_width}
+use Rattle.atoms.specs.declared.short.Stop.{Stop}
+use Rattle.atoms.specs.declared.short.Stop.TheVariants.{No, Undecided}
 use Rattle.atoms.specs.Label.{label_has}
-use Rattle.atoms.specs.Rows.{rows_of}
 
 -- "reached through Ands, in order": the numbers of the concepts that are no And, where f has those of smaller concepts
 unfoldable pub leaves_of : ℕ → Concept → (ℕ → List ℕ) → List ℕ
@@ -46,52 +45,41 @@ unfoldable pub leaves : Deck → ℕ → List ℕ
 leaves D = numbered [] (λ c f. leaves_of c (concept_at D c) f)
 
 -- what is asked of each: to be Top; to be no atom; to be no atom that the label lacks
-abbrev pub holds_atom : Question → List ℕ → ℕ → Bool
-holds_atom Universal label k = false
-holds_atom Atomless label k = false
-holds_atom (Held e) label k = label_has label k
+abbrev pub holds_atom : Question → ℕ → Bool
+holds_atom Universal k = false
+holds_atom Atomless k = false
+holds_atom (Held label) k = label_has label.now k
 
 abbrev pub allows : Question → Bool
 allows Universal = false
 allows Atomless = true
-allows (Held e) = true
+allows (Held label) = true
 
-abbrev pub answer_of : Question → List ℕ → Concept → Bool
-answer_of q label Concept.Top = true
-answer_of q label (Concept.Atomic k) = holds_atom q label k
-answer_of q label Concept.Bot = allows q
-answer_of q label (Concept.Nominal i) = allows q
-answer_of q label (Concept.SelfRestriction r) = allows q
-answer_of q label (Concept.Not b) = allows q
-answer_of q label (Concept.And l) = allows q
-answer_of q label (Concept.Or l) = allows q
-answer_of q label (Concept.Some r b) = allows q
-answer_of q label (Concept.All r b) = allows q
-answer_of q label (Concept.Min m r b) = allows q
-answer_of q label (Concept.Max m r b) = allows q
+abbrev pub answer_of : Question → Concept → Bool
+answer_of q Concept.Top = true
+answer_of q (Concept.Atomic k) = holds_atom q k
+answer_of q Concept.Bot = allows q
+answer_of q (Concept.Nominal i) = allows q
+answer_of q (Concept.SelfRestriction r) = allows q
+answer_of q (Concept.Not b) = allows q
+answer_of q (Concept.And l) = allows q
+answer_of q (Concept.Or l) = allows q
+answer_of q (Concept.Some r b) = allows q
+answer_of q (Concept.All r b) = allows q
+answer_of q (Concept.Min m r b) = allows q
+answer_of q (Concept.Max m r b) = allows q
 
-unfoldable pub answer : Deck → Question → List ℕ → ℕ → Bool
-answer D q label k = answer_of q label (concept_at D k)
+unfoldable pub answer : Deck → Question → ℕ → Bool
+answer D q k = answer_of q (concept_at D k)
 
-unfoldable pub every_leaf : Deck → Question → List ℕ → ℕ → Bool
-every_leaf D q label c = every (map (answer D q label) (leaves D c))
-
--- the label that is asked about, of n in a buffer, and that the buffer holds it
-abbrev pub row_asked : Deck → List ℕ → ℕ → Question → List ℕ
-row_asked D labels n Universal = []
-row_asked D labels n Atomless = []
-row_asked D labels n (Held e) = get_or (rows_of (label_width D) n labels) e.0 []
-
-abbrev pub Askable : Deck → List ℕ → ℕ → Question → Type 0
-Askable D labels n Universal = Unit {0}
-Askable D labels n Atomless = Unit {0}
-Askable D labels n (Held e) = (n * label_width D ≤ length labels) × (e.0 < n)
+unfoldable pub every_leaf : Deck → Question → ℕ → Bool
+every_leaf D q c = every (map (answer D q) (leaves D c))
 
 -- what a short walk came to is right of the answer b
-abbrev pub Decides : Walked → Bool → Type 0
-Decides Undecided b = Unit {0}
-Decides No b = b ≡ false
-Decides (Yes n) b = b ≡ true
+abbrev pub Decides : Result ℕ Stop → Bool → Type 0
+Decides (Ok left) b = b ≡ true
+Decides (Err No) b = b ≡ false
+Decides (Err Undecided) b = Unit {0}
 
 -- ---- a walk downward, by marks
 -- what the marked concepts below i lead to
@@ -99,22 +87,23 @@ unfoldable pub pending : Deck → List ℕ → ℕ → List ℕ
 pending D marks zero = []
 pending D marks (suc i) = cond (label_has marks i) (leaves D i ++ pending D marks i) (pending D marks i)
 
--- the highest marked number below i, or 16,384
-unfoldable pub highest_mark : List ℕ → ℕ → ℕ
-highest_mark marks zero = 16384
-highest_mark marks (suc i) = cond (label_has marks i) i (highest_mark marks i)
+-- the highest marked number below i, where there is one
+unfoldable pub highest_mark : List ℕ → ℕ → Option ConceptId
+highest_mark marks zero = None
+highest_mark marks (suc i) = cond (label_has marks i) (Some (record { 0 = i })) (highest_mark marks i)
 
--- concept k, where it is one, and what the marked ones below it lead to
-abbrev pub and_below : Deck → List ℕ → ℕ → List ℕ
-and_below D marks k = cond (ltb k 16384) (k ∷ pending D marks k) []
+-- a concept, where there is one, and what the marked ones below it lead to
+abbrev pub and_below : Deck → List ℕ → Option ConceptId → List ℕ
+and_below D marks None = []
+and_below D marks (Some k) = k.0 ∷ pending D marks k.0
 
 -- lists with the same members
 abbrev pub Same : List ℕ → List ℕ → Type 0
 Same xs ys = (x : ℕ) → has xs x ≡ has ys x
 
 -- the next one of a walk that stood at i: nothing is lost, it is no And, and the walk goes down
-pub record Next (D : Deck) (was : List ℕ) (i : ℕ) (marks : List ℕ) (k : ℕ) : Type 0 where
-  pub same : Same (pending D was i) (and_below D marks k)
-  pub down : k < 16384 → k < i
-  pub leaf : k < 16384 → IsLeaf (concept_at D k)
+pub record Next (D : Deck) (was : List ℕ) (i : ℕ) (marks : List ℕ) (next : Option ConceptId) : Type 0 where
+  pub same : Same (pending D was i) (and_below D marks next)
+  pub down : IfSome next (λ k. k.0 < i)
+  pub leaf : IfSome next (λ k. IsLeaf (concept_at D k.0))
   pub wide : length marks ≡ length was

@@ -9,3 +9,4 @@ pub mod Antecedent
 pub mod Leaves
 pub mod Large
 pub mod Body
+pub mod Walking

@@ -1,5 +1,5 @@
 -- The occurrences of a body's required atoms without walking each: how many RunDeltas they give, those in order, and the first atom of all.
-use Rattle.std.specs.Prelude.{ℕ, ◌+◌, ◌/◌, ◌<◌, min, Bool, ◌&&◌, ◌≡◌, length, get_or, ltb}
+use Rattle.std.specs.Prelude.{ℕ, ◌+◌, ◌<◌, min, ◌≡◌, length, get_or}
 use mathlib.Core.List.{List, [], ◌∷◌, flat_map}
 use Rattle.deck.specs.Deck.{Deck}
 use Rattle.atoms.specs.declared.reasons.Reason.{Reason}
@@ -24,10 +24,6 @@ entry_at t k = get_or t k 0
 -- the log and the total of reasons
 abbrev pub logs : List ℕ → ℕ → Log
 logs words total = record { words = words; total = total }
-
--- would one more reason be written, where `total` were given?
-abbrev pub has_room : List ℕ → ℕ → Bool
-has_room words total = ltb total 4294967295 && ltb total (length words / 3)
 
 module _ (D : Deck) (r : ℕ) where
   -- the RunDeltas of a concept's required atoms, one for each occurrence, in order

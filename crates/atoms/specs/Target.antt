@@ -23,6 +23,12 @@ by_injected D y None = NotClosed
 unfoldable pub target_of : Deck → ℕ → ℕ → Target
 target_of D y r = cond (holds_range D y r) (Row (class y)) (by_injected D y (injected_class D.injected y r))
 
+-- the class whose row labels: y's own where it is not closed
+abbrev pub class_by : ClassId → Target → ClassId
+class_by y (Row k) = k
+class_by y (Delta k) = k
+class_by y NotClosed = y
+
 -- a class that labels is below N
 abbrev pub TargetFits : Deck → Target → Type 0
 TargetFits D (Row k) = k.0 < class_count D

@@ -1,7 +1,7 @@
 // The label of the target of a Some, from its body's required atoms.
 ghost use Rattle.std.specs.Prelude.{◌≡◌, ◌<◌, length};
 ghost use mathlib.Core.List.{flat_map};
-ghost use Rattle.deck.specs.Content.{IsAccepted, deck_of};
+ghost use Rattle.deck.specs.Accepted.{content};
 ghost use Rattle.deck.specs.Deck.{class_count, role_count, concept_count, role_at};
 ghost use Rattle.deck.specs.Reads.{list_of, ListFits};
 ghost use Rattle.eval.specs.Lent.{label_width};
@@ -11,103 +11,80 @@ ghost use Rattle.atoms.specs.Body.{body, met, row_of_class, join_atom, join_atom
 
 use crate::labels;
 use crate::large::body_large;
+use crate::lists::operand;
 use crate::reasons::{Reason, note};
 use crate::subsumers::insert_subsumers;
-use crate::target_label::{Target, target_label};
+use crate::target_label::{Target, join_target};
 use crate::visits::visits;
-use deck::concepts::{ConceptExpr, concept_at};
+use deck::Deck;
+use deck::concepts::ConceptExpr;
 use deck::numbers::{ClassId, ConceptId, RoleId};
-use deck::roles::range_of;
-use deck::rows::{Span, item};
+use deck::rows::Span;
 
-// What the atoms so far gave: whether there was one, the first of them, whether one was not closed, and the total of reasons.
+// What the atoms so far gave: the first of them, whether one was not closed, and the total of reasons.
 #[derive(Clone, Copy)]
 pub struct Atoms {
-    pub found: bool,
-    pub first: ClassId,
+    pub first: Option<ClassId>,
     pub unclosed: bool,
     pub reasons: u32,
 }
 
-// One more atom: the first of all is kept.
-fn with_atom(j: Atoms, a: ClassId) -> Atoms
-    ensures { result ≡ met a.0 j }
-{
-    let found = j.found;
-    if found {
-        return j;
-    }
-    Atoms {
-        found: true,
-        first: a,
-        unclosed: j.unclosed,
-        reasons: j.reasons,
+impl Atoms {
+    // One more atom: the first of all is kept.
+    fn with(self, a: ClassId) -> Atoms
+        ensures { result ≡ met a.0 self }
+    {
+        Atoms {
+            first: self.first.or(Some(a)),
+            ..self
+        }
     }
 }
 
 // The label takes one atom in, by the label of its target by r.
 fn join_atom(
-    deck: &[u8],
+    deck: &Deck,
     r: RoleId,
     a: ClassId,
     label: &mut [u64],
     log: &mut [u32],
     j: Atoms,
 ) -> Atoms
-    requires accepted { IsAccepted deck.now }
-    requires r_bound { r.0 < role_count (deck_of deck.now) }
-    requires a_bound { a.0 < class_count (deck_of deck.now) }
-    requires label_len { length label.old ≡ label_width (deck_of deck.now) }
-    ensures { body label.new log.new result ≡ join_atom (deck_of deck.now) r.0 a.0 (body label.old log.old j) }
+    requires r_bound { r.0 < role_count (content deck.now) }
+    requires a_bound { a.0 < class_count (content deck.now) }
+    requires label_len { length label.old ≡ label_width (content deck.now) }
+    ensures { body label.new log.new result ≡ join_atom (content deck.now) r.0 a.0 (body label.old log.old j) }
 {
-    let k = with_atom(j, a);
-    let first = k.first;
-    let by = target_label(deck, a, r);
-    match by {
-        Target::Row(class) => {
-            insert_subsumers(deck, class, label);
-            k
+    let met = j.with(a);
+    match join_target(deck, r, a, label) {
+        Target::Row(_) => met,
+        Target::Delta(_) => {
+            let reasons = note(log, met.reasons, Reason::RunDelta(a));
+            Atoms { reasons, ..met }
         }
-        Target::Delta(class) => {
-            insert_subsumers(deck, class, label);
-            let reason = Reason::run_delta(a);
-            let reasons = note(log, k.reasons, reason);
-            Atoms {
-                found: k.found,
-                first,
-                unclosed: k.unclosed,
-                reasons,
-            }
-        }
-        Target::NotClosed => {
-            insert_subsumers(deck, a, label);
-            Atoms {
-                found: k.found,
-                first,
-                unclosed: true,
-                reasons: k.reasons,
-            }
-        }
+        Target::NotClosed => Atoms {
+            unclosed: true,
+            ..met
+        },
     }
 }
 
 // The label takes the required atoms of a concept in.
 #[cycle(join_atoms_join_operands_atoms)]
 fn join_atoms(
-    deck: &[u8],
+    deck: &Deck,
     r: RoleId,
     concept: ConceptId,
     label: &mut [u64],
     log: &mut [u32],
     j: Atoms,
 ) -> Atoms
-    requires accepted { IsAccepted deck.now }
-    requires r_bound { r.0 < role_count (deck_of deck.now) }
-    requires concept_bound { concept.0 < concept_count (deck_of deck.now) }
-    requires label_len { length label.old ≡ label_width (deck_of deck.now) }
-    ensures { body label.new log.new result ≡ join_atoms (deck_of deck.now) r.0 concept.0 (body label.old log.old j) }
+    requires r_bound { r.0 < role_count (content deck.now) }
+    requires concept_bound { concept.0 < concept_count (content deck.now) }
+    requires label_len { length label.old ≡ label_width (content deck.now) }
+    ensures { body label.new log.new result ≡ join_atoms (content deck.now) r.0 concept.0 (body label.old log.old j) }
 {
-    let expr = concept_at(deck, concept);
+    let expr = deck.concept_at(concept);
     match expr {
         ConceptExpr::Atomic(class) => join_atom(deck, r, class, label, log, j),
         ConceptExpr::And(list) => join_operands_atoms(deck, r, concept, list, label, log, j),
@@ -118,7 +95,7 @@ fn join_atoms(
 // The same of each concept of the list, all below `owner`.
 #[cycle(join_atoms_join_operands_atoms)]
 fn join_operands_atoms(
-    deck: &[u8],
+    deck: &Deck,
     r: RoleId,
     owner: ConceptId,
     list: Span,
@@ -126,77 +103,65 @@ fn join_operands_atoms(
     log: &mut [u32],
     j: Atoms,
 ) -> Atoms
-    requires accepted { IsAccepted deck.now }
-    requires r_bound { r.0 < role_count (deck_of deck.now) }
-    requires owner_bound { owner.0 < concept_count (deck_of deck.now) }
-    requires list_fits { ListFits deck.now owner.0 list }
-    requires label_len { length label.old ≡ label_width (deck_of deck.now) }
-    ensures { body label.new log.new result ≡ walk (join_atoms (deck_of deck.now) r.0) (list_of deck.now list) (body label.old log.old j) }
+    requires r_bound { r.0 < role_count (content deck.now) }
+    requires owner_bound { owner.0 < concept_count (content deck.now) }
+    requires list_fits { ListFits deck.now.bytes.now owner.0 list }
+    requires label_len { length label.old ≡ label_width (content deck.now) }
+    ensures { body label.new log.new result ≡ walk (join_atoms (content deck.now) r.0) (list_of deck.now.bytes.now list) (body label.old log.old j) }
 {
-    let count = list.count;
-    let mut i = 0;
     let mut held = j;
-    while i < count {
-        let next = join_atoms(deck, r, ConceptId(item(deck, list, i)), label, log, held);
-        held = next;
-        i += 1;
+    for i in 0..list.count {
+        held = join_atoms(deck, r, operand(deck, owner, list, i), label, log, held);
     }
     held
 }
 
 // The label takes the rows of r's range classes in.
-pub fn join_ranges(deck: &[u8], r: RoleId, label: &mut [u64])
-    requires accepted { IsAccepted deck.now }
-    requires r_bound { r.0 < role_count (deck_of deck.now) }
-    requires label_len { length label.old ≡ label_width (deck_of deck.now) }
-    ensures { label.new ≡ insert_all label.old (flat_map (row_of_class (deck_of deck.now)) (role_at (deck_of deck.now) r.0).range) }
+pub fn join_ranges(deck: &Deck, r: RoleId, label: &mut [u64])
+    requires r_bound { r.0 < role_count (content deck.now) }
+    requires label_len { length label.old ≡ label_width (content deck.now) }
+    ensures { label.new ≡ insert_all label.old (flat_map (row_of_class (content deck.now)) (role_at (content deck.now) r.0).range) }
 {
-    let list = range_of(deck, r);
-    let count = list.count;
-    let mut i = 0;
-    while i < count {
-        insert_subsumers(deck, ClassId(item(deck, list, i)), label);
-        i += 1;
+    let list = deck.range_of(r);
+    for i in 0..list.count {
+        insert_subsumers(deck, ClassId(deck.item(list, i)), label);
     }
 }
 
 // The label becomes that of a body's target by r, by a walk over every occurrence of its required atoms; the total of reasons after those.
 fn body_walked(
-    deck: &[u8],
+    deck: &Deck,
     r: RoleId,
     concept: ConceptId,
     label: &mut [u64],
     log: &mut [u32],
     reasons: u32,
 ) -> u32
-    requires accepted { IsAccepted deck.now }
-    requires r_bound { r.0 < role_count (deck_of deck.now) }
-    requires concept_bound { concept.0 < concept_count (deck_of deck.now) }
-    requires label_len { length label.old ≡ label_width (deck_of deck.now) }
-    ensures { Joined label.new log.new result (body_of (deck_of deck.now) r.0 concept.0 log.old reasons) }
+    requires r_bound { r.0 < role_count (content deck.now) }
+    requires concept_bound { concept.0 < concept_count (content deck.now) }
+    requires label_len { length label.old ≡ label_width (content deck.now) }
+    ensures { Joined label.new log.new result (body_of (content deck.now) r.0 concept.0 log.old reasons) }
 {
     labels::clear(label);
     let none = Atoms {
-        found: false,
-        first: ClassId(0),
+        first: None,
         unclosed: false,
         reasons,
     };
     let j = join_atoms(deck, r, concept, label, log, none);
-    if !j.found {
+    let Some(first) = j.first else {
         join_ranges(deck, r, label);
         return j.reasons;
-    }
+    };
     if !j.unclosed {
         return j.reasons;
     }
-    let reason = Reason::label_not_closed(j.first, r);
-    note(log, j.reasons, reason)
+    note(log, j.reasons, Reason::LabelNotClosed(first, r))
 }
 
 // The same: by a walk where that is short, or known to be, and else by tables.
 pub fn body_label_known(
-    deck: &[u8],
+    deck: &Deck,
     r: RoleId,
     concept: ConceptId,
     short: bool,
@@ -204,11 +169,10 @@ pub fn body_label_known(
     log: &mut [u32],
     reasons: u32,
 ) -> u32
-    requires accepted { IsAccepted deck.now }
-    requires r_bound { r.0 < role_count (deck_of deck.now) }
-    requires concept_bound { concept.0 < concept_count (deck_of deck.now) }
-    requires label_len { length label.old ≡ label_width (deck_of deck.now) }
-    ensures { Joined label.new log.new result (body_of (deck_of deck.now) r.0 concept.0 log.old reasons) }
+    requires r_bound { r.0 < role_count (content deck.now) }
+    requires concept_bound { concept.0 < concept_count (content deck.now) }
+    requires label_len { length label.old ≡ label_width (content deck.now) }
+    ensures { Joined label.new log.new result (body_of (content deck.now) r.0 concept.0 log.old reasons) }
 {
     if !short {
         if visits(deck, concept, false, 256) == 0 {
@@ -220,18 +184,17 @@ pub fn body_label_known(
 
 // The same where nothing is known of the walk.
 pub fn body_label(
-    deck: &[u8],
+    deck: &Deck,
     r: RoleId,
     concept: ConceptId,
     label: &mut [u64],
     log: &mut [u32],
     reasons: u32,
 ) -> u32
-    requires accepted { IsAccepted deck.now }
-    requires r_bound { r.0 < role_count (deck_of deck.now) }
-    requires concept_bound { concept.0 < concept_count (deck_of deck.now) }
-    requires label_len { length label.old ≡ label_width (deck_of deck.now) }
-    ensures { Joined label.new log.new result (body_of (deck_of deck.now) r.0 concept.0 log.old reasons) }
+    requires r_bound { r.0 < role_count (content deck.now) }
+    requires concept_bound { concept.0 < concept_count (content deck.now) }
+    requires label_len { length label.old ≡ label_width (content deck.now) }
+    ensures { Joined label.new log.new result (body_of (content deck.now) r.0 concept.0 log.old reasons) }
 {
     body_label_known(deck, r, concept, false, label, log, reasons)
 }

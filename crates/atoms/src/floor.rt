@@ -1,7 +1,7 @@
 // The top floor: what every element without a real class has.
-ghost use Rattle.std.specs.Prelude.{◌≡◌, ◌+◌, ◌*◌, ◌%◌, ◌^◌, ◌<◌, ◌≤◌, length, get_or, drop, replicate};
+ghost use Rattle.std.specs.Prelude.{◌≡◌, ◌+◌, ◌*◌, ◌%◌, ◌^◌, ◌<◌, ◌≤◌, length, get_or, drop};
 ghost use mathlib.Core.List.{map, flat_map};
-ghost use Rattle.deck.specs.Content.{IsAccepted, deck_of};
+ghost use Rattle.deck.specs.Accepted.{content};
 ghost use Rattle.deck.specs.Below.{any_below};
 ghost use Rattle.deck.specs.Deck.{Axiom, concept_count, concept_at, axiom_count, axiom_at};
 ghost use Rattle.deck.specs.Reads.{list_of, ListFits};
@@ -12,107 +12,73 @@ ghost use Rattle.atoms.specs.Leaves.{IsLeaf};
 ghost use Rattle.atoms.specs.Floor.{universal, atom_rows, member_rows, floor_of, floor_label, has_real, floored};
 
 use crate::labels;
-use crate::leaves::{Question, every_leaf, is_and, leaf_answer};
-use crate::marks::{mark_operands, next_leaf};
+use crate::leaves::{Question, is_and};
+use crate::lists::{member, operand};
+use crate::marks::Leaves;
+use crate::short::answer_soon;
 use crate::subsumers::insert_satisfiable;
-use deck::axioms::{axiom_at, axiom_count};
-use deck::classes::real_count;
-use deck::concepts::{ConceptExpr, concept_at};
+use deck::Deck;
+use deck::concepts::ConceptExpr;
 use deck::numbers::ConceptId;
-use deck::rows::{Span, item};
+use deck::rows::Span;
 
 // Is the concept universal?
-pub fn is_universal_antecedent(deck: &[u8], concept: ConceptId) -> bool
-    requires accepted { IsAccepted deck.now }
-    requires concept_bound { concept.0 < concept_count (deck_of deck.now) }
-    ensures { result ≡ universal (deck_of deck.now) concept.0 }
+pub fn is_universal_antecedent(deck: &Deck, concept: ConceptId) -> bool
+    requires concept_bound { concept.0 < concept_count (content deck.now) }
+    ensures { result ≡ universal (content deck.now) concept.0 }
 {
-    let none: [u64; 1] = [0; 1];
-    if is_and(deck, concept) {
-        return every_leaf(deck, &none, 0, Question::Universal, concept);
-    }
-    leaf_answer(deck, &none, 0, Question::Universal, concept)
+    answer_soon(deck, &Question::Universal, concept)
 }
 
 // The label takes the row of a concept that is a satisfiable atom in.
-fn join_leaf(deck: &[u8], concept: ConceptId, label: &mut [u64])
-    requires accepted { IsAccepted deck.now }
-    requires concept_bound { concept.0 < concept_count (deck_of deck.now) }
-    requires leaf { IsLeaf (concept_at (deck_of deck.now) concept.0) }
-    requires label_len { length label.old ≡ label_width (deck_of deck.now) }
-    ensures { label.new ≡ insert_all label.old (atom_rows (deck_of deck.now) concept.0) }
+fn join_leaf(deck: &Deck, concept: ConceptId, label: &mut [u64])
+    requires concept_bound { concept.0 < concept_count (content deck.now) }
+    requires leaf { IsLeaf (concept_at (content deck.now) concept.0) }
+    requires label_len { length label.old ≡ label_width (content deck.now) }
+    ensures { label.new ≡ insert_all label.old (atom_rows (content deck.now) concept.0) }
 {
-    let expr = concept_at(deck, concept);
+    let expr = deck.concept_at(concept);
     match expr {
         ConceptExpr::Atomic(class) => insert_satisfiable(deck, class, label),
         _ => {}
     }
 }
 
-// The same of all that the operands from the first on lead to, all below `owner`: by marks, none at first, so what is shared is joined once.
-fn join_marked(
-    deck: &[u8],
-    owner: ConceptId,
-    list: Span,
-    first: u32,
-    label: &mut [u64],
-    marks: &mut [u64],
-)
-    requires accepted { IsAccepted deck.now }
-    requires owner_bound { owner.0 < concept_count (deck_of deck.now) }
-    requires list_fits { ListFits deck.now owner.0 list }
-    requires label_len { length label.old ≡ label_width (deck_of deck.now) }
-    requires marks_value { marks.old ≡ replicate 256 0 }
-    ensures { label.new ≡ insert_all label.old (flat_map (atom_rows (deck_of deck.now)) (drop first (list_of deck.now list))) }
+// The same of all that the operands from the first on lead to, all below `owner`: what is shared is joined once.
+fn join_rest(deck: &Deck, owner: ConceptId, list: Span, first: u32, label: &mut [u64])
+    requires owner_bound { owner.0 < concept_count (content deck.now) }
+    requires list_fits { ListFits deck.now.bytes.now owner.0 list }
+    requires label_len { length label.old ≡ label_width (content deck.now) }
+    ensures { label.new ≡ insert_all label.old (flat_map (atom_rows (content deck.now)) (drop first (list_of deck.now.bytes.now list))) }
 {
-    mark_operands(deck, owner.0, list, first, marks);
-    let mut k = next_leaf(deck, marks, owner.0);
-    while k < 16384 {
-        join_leaf(deck, ConceptId(k), label);
-        k = next_leaf(deck, marks, k);
+    for leaf in Leaves::of_operands(deck, owner, list, first) {
+        join_leaf(deck, leaf, label);
     }
 }
 
-// The same, with marks of its own.
-fn join_rest(deck: &[u8], owner: ConceptId, list: Span, first: u32, label: &mut [u64])
-    requires accepted { IsAccepted deck.now }
-    requires owner_bound { owner.0 < concept_count (deck_of deck.now) }
-    requires list_fits { ListFits deck.now owner.0 list }
-    requires label_len { length label.old ≡ label_width (deck_of deck.now) }
-    ensures { label.new ≡ insert_all label.old (flat_map (atom_rows (deck_of deck.now)) (drop first (list_of deck.now list))) }
-{
-    let mut marks: [u64; 256] = [0; 256];
-    join_marked(deck, owner, list, first, label, &mut marks);
-}
-
 // The same of the whole list: marks only from the first And on.
-fn join_operands(deck: &[u8], owner: ConceptId, list: Span, label: &mut [u64])
-    requires accepted { IsAccepted deck.now }
-    requires owner_bound { owner.0 < concept_count (deck_of deck.now) }
-    requires list_fits { ListFits deck.now owner.0 list }
-    requires label_len { length label.old ≡ label_width (deck_of deck.now) }
-    ensures { label.new ≡ insert_all label.old (flat_map (atom_rows (deck_of deck.now)) (list_of deck.now list)) }
+fn join_operands(deck: &Deck, owner: ConceptId, list: Span, label: &mut [u64])
+    requires owner_bound { owner.0 < concept_count (content deck.now) }
+    requires list_fits { ListFits deck.now.bytes.now owner.0 list }
+    requires label_len { length label.old ≡ label_width (content deck.now) }
+    ensures { label.new ≡ insert_all label.old (flat_map (atom_rows (content deck.now)) (list_of deck.now.bytes.now list)) }
 {
-    let count = list.count;
-    let mut i = 0;
-    while i < count {
-        let o = ConceptId(item(deck, list, i));
+    for i in 0..list.count {
+        let o = operand(deck, owner, list, i);
         if is_and(deck, o) {
             return join_rest(deck, owner, list, i, label);
         }
         join_leaf(deck, o, label);
-        i += 1;
     }
 }
 
 // The label takes the rows of the concept's satisfiable required atoms in.
-pub fn join_required_atoms(deck: &[u8], concept: ConceptId, label: &mut [u64])
-    requires accepted { IsAccepted deck.now }
-    requires concept_bound { concept.0 < concept_count (deck_of deck.now) }
-    requires label_len { length label.old ≡ label_width (deck_of deck.now) }
-    ensures { label.new ≡ insert_all label.old (atom_rows (deck_of deck.now) concept.0) }
+pub fn join_required_atoms(deck: &Deck, concept: ConceptId, label: &mut [u64])
+    requires concept_bound { concept.0 < concept_count (content deck.now) }
+    requires label_len { length label.old ≡ label_width (content deck.now) }
+    ensures { label.new ≡ insert_all label.old (atom_rows (content deck.now) concept.0) }
 {
-    let expr = concept_at(deck, concept);
+    let expr = deck.concept_at(concept);
     match expr {
         ConceptExpr::And(list) => join_operands(deck, concept, list, label),
         _ => join_leaf(deck, concept, label),
@@ -120,28 +86,18 @@ pub fn join_required_atoms(deck: &[u8], concept: ConceptId, label: &mut [u64])
 }
 
 // Is a member universal?
-fn any_universal(deck: &[u8], list: Span) -> bool
-    requires accepted { IsAccepted deck.now }
-    requires list_fits { ListFits deck.now (concept_count (deck_of deck.now)) list }
-    ensures { result ≡ any (map (universal (deck_of deck.now)) (list_of deck.now list)) }
+fn any_universal(deck: &Deck, list: Span) -> bool
+    requires list_fits { ListFits deck.now.bytes.now (concept_count (content deck.now)) list }
+    ensures { result ≡ any (map (universal (content deck.now)) (list_of deck.now.bytes.now list)) }
 {
-    let count = list.count;
-    let mut i = 0;
-    while i < count {
-        if is_universal_antecedent(deck, ConceptId(item(deck, list, i))) {
-            return true;
-        }
-        i += 1;
-    }
-    false
+    (0..list.count).any(|i| is_universal_antecedent(deck, member(deck, list, i)))
 }
 
 // A member that is not universal gives its atoms' rows.
-fn join_member(deck: &[u8], member: ConceptId, label: &mut [u64])
-    requires accepted { IsAccepted deck.now }
-    requires member_bound { member.0 < concept_count (deck_of deck.now) }
-    requires label_len { length label.old ≡ label_width (deck_of deck.now) }
-    ensures { label.new ≡ insert_all label.old (member_rows (deck_of deck.now) member.0) }
+fn join_member(deck: &Deck, member: ConceptId, label: &mut [u64])
+    requires member_bound { member.0 < concept_count (content deck.now) }
+    requires label_len { length label.old ≡ label_width (content deck.now) }
+    ensures { label.new ≡ insert_all label.old (member_rows (content deck.now) member.0) }
 {
     if is_universal_antecedent(deck, member) {
         return;
@@ -149,27 +105,22 @@ fn join_member(deck: &[u8], member: ConceptId, label: &mut [u64])
     join_required_atoms(deck, member, label);
 }
 
-fn join_members(deck: &[u8], list: Span, label: &mut [u64])
-    requires accepted { IsAccepted deck.now }
-    requires list_fits { ListFits deck.now (concept_count (deck_of deck.now)) list }
-    requires label_len { length label.old ≡ label_width (deck_of deck.now) }
-    ensures { label.new ≡ insert_all label.old (flat_map (member_rows (deck_of deck.now)) (list_of deck.now list)) }
+fn join_members(deck: &Deck, list: Span, label: &mut [u64])
+    requires list_fits { ListFits deck.now.bytes.now (concept_count (content deck.now)) list }
+    requires label_len { length label.old ≡ label_width (content deck.now) }
+    ensures { label.new ≡ insert_all label.old (flat_map (member_rows (content deck.now)) (list_of deck.now.bytes.now list)) }
 {
-    let count = list.count;
-    let mut i = 0;
-    while i < count {
-        join_member(deck, ConceptId(item(deck, list, i)), label);
-        i += 1;
+    for i in 0..list.count {
+        join_member(deck, member(deck, list, i), label);
     }
 }
 
 // SubClassOf: where the subclass is universal.
-fn join_sub_class(deck: &[u8], sub: ConceptId, sup: ConceptId, label: &mut [u64])
-    requires accepted { IsAccepted deck.now }
-    requires sub_bound { sub.0 < concept_count (deck_of deck.now) }
-    requires sup_bound { sup.0 < concept_count (deck_of deck.now) }
-    requires label_len { length label.old ≡ label_width (deck_of deck.now) }
-    ensures { label.new ≡ insert_all label.old (floor_of (deck_of deck.now) (Axiom.SubClassOf sub.0 sup.0)) }
+fn join_sub_class(deck: &Deck, sub: ConceptId, sup: ConceptId, label: &mut [u64])
+    requires sub_bound { sub.0 < concept_count (content deck.now) }
+    requires sup_bound { sup.0 < concept_count (content deck.now) }
+    requires label_len { length label.old ≡ label_width (content deck.now) }
+    ensures { label.new ≡ insert_all label.old (floor_of (content deck.now) (Axiom.SubClassOf sub.0 sup.0)) }
 {
     if is_universal_antecedent(deck, sub) {
         join_required_atoms(deck, sup, label);
@@ -177,11 +128,10 @@ fn join_sub_class(deck: &[u8], sub: ConceptId, sup: ConceptId, label: &mut [u64]
 }
 
 // EquivalentClasses: where a member is universal.
-fn join_equivalent(deck: &[u8], list: Span, label: &mut [u64])
-    requires accepted { IsAccepted deck.now }
-    requires list_fits { ListFits deck.now (concept_count (deck_of deck.now)) list }
-    requires label_len { length label.old ≡ label_width (deck_of deck.now) }
-    ensures { label.new ≡ insert_all label.old (floor_of (deck_of deck.now) (Axiom.EquivalentClasses (list_of deck.now list))) }
+fn join_equivalent(deck: &Deck, list: Span, label: &mut [u64])
+    requires list_fits { ListFits deck.now.bytes.now (concept_count (content deck.now)) list }
+    requires label_len { length label.old ≡ label_width (content deck.now) }
+    ensures { label.new ≡ insert_all label.old (floor_of (content deck.now) (Axiom.EquivalentClasses (list_of deck.now.bytes.now list))) }
 {
     if any_universal(deck, list) {
         join_members(deck, list, label);
@@ -189,13 +139,12 @@ fn join_equivalent(deck: &[u8], list: Span, label: &mut [u64])
 }
 
 // What an axiom gives the floor.
-fn join_axiom(deck: &[u8], axiom: u32, label: &mut [u64])
-    requires accepted { IsAccepted deck.now }
-    requires axiom_bound { «axiom» < axiom_count (deck_of deck.now) }
-    requires label_len { length label.old ≡ label_width (deck_of deck.now) }
-    ensures { label.new ≡ insert_all label.old (floor_of (deck_of deck.now) (axiom_at (deck_of deck.now) «axiom»)) }
+fn join_axiom(deck: &Deck, axiom: u32, label: &mut [u64])
+    requires axiom_bound { «axiom» < axiom_count (content deck.now) }
+    requires label_len { length label.old ≡ label_width (content deck.now) }
+    ensures { label.new ≡ insert_all label.old (floor_of (content deck.now) (axiom_at (content deck.now) «axiom»)) }
 {
-    let record = axiom_at(deck, axiom);
+    let record = deck.axiom_at(axiom);
     let tag = record.tag;
     let x = record.first;
     let y = record.second;
@@ -207,17 +156,13 @@ fn join_axiom(deck: &[u8], axiom: u32, label: &mut [u64])
 }
 
 // The floor: the rows that all axioms give.
-pub fn compute_top_floor(deck: &[u8], floor: &mut [u64])
-    requires accepted { IsAccepted deck.now }
-    requires floor_len { length floor.old ≡ label_width (deck_of deck.now) }
-    ensures { floor.new ≡ floor_label (deck_of deck.now) }
+pub fn compute_top_floor(deck: &Deck, floor: &mut [u64])
+    requires floor_len { length floor.old ≡ label_width (content deck.now) }
+    ensures { floor.new ≡ floor_label (content deck.now) }
 {
     labels::clear(floor);
-    let count = axiom_count(deck);
-    let mut i = 0;
-    while i < count {
+    for i in 0..deck.axiom_count() {
         join_axiom(deck, i, floor);
-        i += 1;
     }
 }
 
@@ -242,29 +187,25 @@ fn low_bits(w: u64, b: u64) -> u64
 }
 
 // Whether the label has a class below M: word by word, then the rest of the last word.
-fn has_real(deck: &[u8], label: &[u64]) -> bool
-    requires accepted { IsAccepted deck.now }
-    requires label_len { length label.now ≡ label_width (deck_of deck.now) }
-    ensures { result ≡ has_real (deck_of deck.now) label.now }
+fn has_real(deck: &Deck, label: &[u64]) -> bool
+    requires label_len { length label.now ≡ label_width (content deck.now) }
+    ensures { result ≡ has_real (content deck.now) label.now }
 {
-    let real = real_count(deck) as usize;
+    let real = deck.real_count() as usize;
     let words = real / 64;
-    let mut i = 0;
-    while i < words {
+    for i in 0..words {
         if label[i] != 0 {
             return true;
         }
-        i += 1;
     }
     has_bit_below(label, words, (real % 64) as u64)
 }
 
 // A label without a class below M takes the floor in.
-pub fn apply_floor(deck: &[u8], floor: &[u64], label: &mut [u64])
-    requires accepted { IsAccepted deck.now }
-    requires floor_len { length floor.now ≡ label_width (deck_of deck.now) }
-    requires label_len { length label.old ≡ label_width (deck_of deck.now) }
-    ensures { label.new ≡ floored (deck_of deck.now) floor.now label.old }
+pub fn apply_floor(deck: &Deck, floor: &[u64], label: &mut [u64])
+    requires floor_len { length floor.now ≡ label_width (content deck.now) }
+    requires label_len { length label.old ≡ label_width (content deck.now) }
+    ensures { label.new ≡ floored (content deck.now) floor.now label.old }
 {
     if has_real(deck, label) {
         return;

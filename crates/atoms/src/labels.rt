@@ -1,10 +1,14 @@
 // A label: words of 64 bits, class k being bit k mod 64 of word k / 64. One in the making is a slice of its own.
-ghost use Rattle.std.specs.Prelude.{◌≡◌, cond, ℕ, ◌+◌, ◌*◌, ◌/◌, ◌^◌, ◌<◌, ◌≤◌, length, get_or, replicate, eqb};
+ghost use Rattle.std.specs.Prelude.{[], ◌≡◌, cond, ℕ, ◌+◌, ◌*◌, ◌/◌, ◌^◌, ◌<◌, ◌≤◌, length, get_or, replicate, eqb};
 ghost use Rattle.std.specs.Int.Bits.{bit_or};
+ghost use Rattle.deck.specs.Accepted.{content};
+ghost use Rattle.eval.specs.Lent.{label_width};
+ghost use Rattle.atoms.specs.Rows.{rows_of};
 ghost use Rattle.atoms.specs.Label.{label_has, insert_bit, joined};
 
-use deck::numbers::ClassId;
-use eval::labels::bit_of;
+use deck::Deck;
+use deck::numbers::{ClassId, Element};
+use eval::labels::{bit_of, label_width};
 
 // A word with bit b.
 fn with_bit(w: u64, b: u64) -> u64
@@ -12,12 +16,6 @@ fn with_bit(w: u64, b: u64) -> u64
     ensures { result ≡ bit_or w (2 ^ b) }
 {
     w | (1 << b)
-}
-
-fn or(a: u64, b: u64) -> u64
-    ensures { result ≡ bit_or a b }
-{
-    a | b
 }
 
 // The word from bit b on.
@@ -54,24 +52,30 @@ pub fn insert(label: &mut [u64], class: ClassId)
     insert_bit(label, class.0);
 }
 
+// The label of element e, of so many in a buffer.
+pub fn label_at<'a>(deck: &Deck, labels: &'a [u64], elements: u32, e: Element) -> &'a [u64]
+    requires deck_in_bounds { elements * label_width (content deck.now) ≤ length labels.now }
+    requires e_lt_elements { e.0 < elements }
+    ensures { result.now ≡ get_or (rows_of (label_width (content deck.now)) elements labels.now) e.0 [] }
+{
+    let width = label_width(deck);
+    let at = e.0 as usize * width;
+    &labels[at..at + width]
+}
+
 // The first n words become 0.
 pub fn clear_first(words: &mut [u64], n: usize)
     requires { n ≤ length words.old }
     ensures { (k : ℕ) → k < n → get_or words.new k 0 ≡ 0 }
 {
-    let mut i = 0;
-    while i < n {
-        words[i] = 0;
-        i += 1;
-    }
+    words[..n].fill(0);
 }
 
 // The label without a class.
 pub fn clear(label: &mut [u64])
     ensures { label.new ≡ replicate (length label.old) 0 }
 {
-    let all = label.len();
-    clear_first(label, all);
+    label.fill(0);
 }
 
 // The label takes another one's classes in.
@@ -79,14 +83,12 @@ pub fn join(label: &mut [u64], other: &[u64])
     requires { length other.now ≡ length label.old }
     ensures { label.new ≡ joined label.old other.now }
 {
-    let mut i = 0;
-    while i < label.len() {
-        label[i] = or(label[i], other[i]);
-        i += 1;
+    for (i, word) in label.iter_mut().enumerate() {
+        *word |= other[i];
     }
 }
 
-// The place after k, or the first of the next word where no bit is left in this one.
+// The place after k, or the first of the next word where no bit is left in this one: a place, and so no Option.
 pub fn after(rest: u64, k: u32) -> u32
     requires { k < 65536 }
     ensures { result ≡ cond (eqb rest 0) ((k / 64 + 1) * 64) (k + 1) }

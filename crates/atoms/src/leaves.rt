@@ -1,190 +1,119 @@
 // Questions of all that a concept's Ands lead to.
-ghost use Rattle.std.specs.Prelude.{◌≡◌, false, [], ◌∷◌, map, ◌<◌, drop, replicate};
-ghost use Rattle.deck.specs.Content.{IsAccepted, deck_of};
-ghost use Rattle.deck.specs.Deck.{class_count, concept_count, concept_at};
+ghost use Rattle.std.specs.Prelude.{◌≡◌, false, ◌∷◌, [], map, ◌<◌, drop};
+ghost use Rattle.deck.specs.Accepted.{content};
+ghost use Rattle.deck.specs.Deck.{concept_count, concept_at};
 ghost use Rattle.deck.specs.Reads.{list_of, ListFits};
 ghost use Rattle.eval.specs.Lists.{every};
-ghost use Rattle.atoms.specs.Leaves.{IsLeaf, holds_atom, allows, answer, every_leaf, leaves, row_asked, Askable};
+ghost use Rattle.atoms.specs.Leaves.{IsLeaf, holds_atom, allows, answer, every_leaf, leaves};
 
-use crate::marks::{mark_operands, next_leaf};
-use deck::concepts::{ConceptExpr, concept_at};
-use deck::numbers::{ClassId, ConceptId, Element};
-use deck::rows::{Span, item};
-use eval::bytes::has_class;
+use crate::labels::has_bit;
+use crate::lists::operand;
+use crate::marks::Leaves;
+use deck::Deck;
+use deck::concepts::ConceptExpr;
+use deck::numbers::{ClassId, ConceptId};
+use deck::rows::Span;
 
-// Is it Top? Is it no atom? Is it no atom that the element lacks?
+// Is it Top? Is it no atom? Is it no atom that the label lacks?
 #[derive(Clone, Copy)]
-pub enum Question {
+pub enum Question<'a> {
     Universal,
     Atomless,
-    Held(Element),
+    Held(&'a [u64]),
 }
 
-impl Question {
+impl Question<'_> {
+    // The answer of an atom.
+    fn holds_atom(&self, class: ClassId) -> bool
+        ensures { result ≡ holds_atom self.now class.0 }
+    {
+        match self {
+            Question::Held(label) => {
+                class.0 as usize / 64 < label.len() && has_bit(label, class.0)
+            }
+            _ => false,
+        }
+    }
+
     // The answer of a concept that is neither Top nor an atom.
-    fn allows(self) -> bool
-        ensures { result ≡ allows self }
+    fn allows(&self) -> bool
+        ensures { result ≡ allows self.now }
     {
         match self {
             Question::Universal => false,
-            Question::Atomless => true,
-            Question::Held(_) => true,
+            _ => true,
         }
     }
 }
 
 // Is it an And?
-pub fn is_and(deck: &[u8], concept: ConceptId) -> bool
-    requires accepted { IsAccepted deck.now }
-    requires concept_bound { concept.0 < concept_count (deck_of deck.now) }
-    ensures leaf { result ≡ false → IsLeaf (concept_at (deck_of deck.now) concept.0) }
-    ensures alone { result ≡ false → leaves (deck_of deck.now) concept.0 ≡ concept.0 ∷ [] }
+#[inline(always)]
+pub fn is_and(deck: &Deck, concept: ConceptId) -> bool
+    requires concept_bound { concept.0 < concept_count (content deck.now) }
+    ensures leaf { result ≡ false → IsLeaf (concept_at (content deck.now) concept.0) }
+    ensures alone { result ≡ false → leaves (content deck.now) concept.0 ≡ concept.0 ∷ [] }
 {
-    let expr = concept_at(deck, concept);
+    let expr = deck.concept_at(concept);
     match expr {
         ConceptExpr::And(_) => true,
         _ => false,
     }
 }
 
-// The answer of an atom.
-fn atom_answer(
-    deck: &[u8],
-    labels: &[u64],
-    elements: u32,
-    question: Question,
-    class: ClassId,
-) -> bool
-    requires accepted { IsAccepted deck.now }
-    requires askable { Askable (deck_of deck.now) labels.now elements question }
-    requires class_bound { class.0 < class_count (deck_of deck.now) }
-    ensures { result ≡ holds_atom question (row_asked (deck_of deck.now) labels.now elements question) class.0 }
-{
-    match question {
-        Question::Universal => false,
-        Question::Atomless => false,
-        Question::Held(e) => has_class(deck, labels, elements, e, class),
-    }
-}
-
 // The answer of a concept that is no And.
-pub fn leaf_answer(
-    deck: &[u8],
-    labels: &[u64],
-    elements: u32,
-    question: Question,
-    concept: ConceptId,
-) -> bool
-    requires accepted { IsAccepted deck.now }
-    requires askable { Askable (deck_of deck.now) labels.now elements question }
-    requires concept_bound { concept.0 < concept_count (deck_of deck.now) }
-    ensures { result ≡ answer (deck_of deck.now) question (row_asked (deck_of deck.now) labels.now elements question) concept.0 }
+#[inline(always)]
+pub fn leaf_answer(deck: &Deck, question: &Question, concept: ConceptId) -> bool
+    requires concept_bound { concept.0 < concept_count (content deck.now) }
+    ensures { result ≡ answer (content deck.now) question.now concept.0 }
 {
-    let expr = concept_at(deck, concept);
+    let expr = deck.concept_at(concept);
     match expr {
         ConceptExpr::Top => true,
-        ConceptExpr::Atomic(class) => atom_answer(deck, labels, elements, question, class),
+        ConceptExpr::Atomic(class) => question.holds_atom(class),
         _ => question.allows(),
     }
 }
 
-// Does each operand from the first on answer yes, all below `owner`? By marks, none at first: what is shared is read once.
-fn marked_answer(
-    deck: &[u8],
-    labels: &[u64],
-    elements: u32,
-    question: Question,
-    owner: ConceptId,
-    list: Span,
-    first: u32,
-    marks: &mut [u64],
-) -> bool
-    requires accepted { IsAccepted deck.now }
-    requires askable { Askable (deck_of deck.now) labels.now elements question }
-    requires owner_bound { owner.0 < concept_count (deck_of deck.now) }
-    requires list_fits { ListFits deck.now owner.0 list }
-    requires marks_value { marks.old ≡ replicate 256 0 }
-    ensures { result ≡ every (map (every_leaf (deck_of deck.now) question (row_asked (deck_of deck.now) labels.now elements question)) (drop first (list_of deck.now list))) }
+// Does all that the operands from the first on lead to answer yes, all below `owner`? What is shared is asked once.
+fn rest_answer(deck: &Deck, question: &Question, owner: ConceptId, list: Span, first: u32) -> bool
+    requires owner_bound { owner.0 < concept_count (content deck.now) }
+    requires list_fits { ListFits deck.now.bytes.now owner.0 list }
+    ensures { result ≡ every (map (every_leaf (content deck.now) question.now) (drop first (list_of deck.now.bytes.now list))) }
 {
-    mark_operands(deck, owner.0, list, first, marks);
-    let mut k = next_leaf(deck, marks, owner.0);
-    while k < 16384 {
-        if !leaf_answer(deck, labels, elements, question, ConceptId(k)) {
+    for leaf in Leaves::of_operands(deck, owner, list, first) {
+        if !leaf_answer(deck, question, leaf) {
             return false;
         }
-        k = next_leaf(deck, marks, k);
     }
     true
 }
 
-// The same, with marks of its own.
-fn rest_answer(
-    deck: &[u8],
-    labels: &[u64],
-    elements: u32,
-    question: Question,
-    owner: ConceptId,
-    list: Span,
-    first: u32,
-) -> bool
-    requires accepted { IsAccepted deck.now }
-    requires askable { Askable (deck_of deck.now) labels.now elements question }
-    requires owner_bound { owner.0 < concept_count (deck_of deck.now) }
-    requires list_fits { ListFits deck.now owner.0 list }
-    ensures { result ≡ every (map (every_leaf (deck_of deck.now) question (row_asked (deck_of deck.now) labels.now elements question)) (drop first (list_of deck.now list))) }
-{
-    let mut marks: [u64; 256] = [0; 256];
-    marked_answer(
-        deck, labels, elements, question, owner, list, first, &mut marks,
-    )
-}
-
 // The same of the whole list: marks only from the first And on.
-fn operands_answer(
-    deck: &[u8],
-    labels: &[u64],
-    elements: u32,
-    question: Question,
-    owner: ConceptId,
-    list: Span,
-) -> bool
-    requires accepted { IsAccepted deck.now }
-    requires askable { Askable (deck_of deck.now) labels.now elements question }
-    requires owner_bound { owner.0 < concept_count (deck_of deck.now) }
-    requires list_fits { ListFits deck.now owner.0 list }
-    ensures { result ≡ every (map (every_leaf (deck_of deck.now) question (row_asked (deck_of deck.now) labels.now elements question)) (list_of deck.now list)) }
+fn operands_answer(deck: &Deck, question: &Question, owner: ConceptId, list: Span) -> bool
+    requires owner_bound { owner.0 < concept_count (content deck.now) }
+    requires list_fits { ListFits deck.now.bytes.now owner.0 list }
+    ensures { result ≡ every (map (every_leaf (content deck.now) question.now) (list_of deck.now.bytes.now list)) }
 {
-    let count = list.count;
-    let mut i = 0;
-    while i < count {
-        let o = ConceptId(item(deck, list, i));
+    for i in 0..list.count {
+        let o = operand(deck, owner, list, i);
         if is_and(deck, o) {
-            return rest_answer(deck, labels, elements, question, owner, list, i);
+            return rest_answer(deck, question, owner, list, i);
         }
-        if !leaf_answer(deck, labels, elements, question, o) {
+        if !leaf_answer(deck, question, o) {
             return false;
         }
-        i += 1;
     }
     true
 }
 
 // Does all that the concept's Ands lead to answer yes?
-pub fn every_leaf(
-    deck: &[u8],
-    labels: &[u64],
-    elements: u32,
-    question: Question,
-    concept: ConceptId,
-) -> bool
-    requires accepted { IsAccepted deck.now }
-    requires askable { Askable (deck_of deck.now) labels.now elements question }
-    requires concept_bound { concept.0 < concept_count (deck_of deck.now) }
-    ensures { result ≡ every_leaf (deck_of deck.now) question (row_asked (deck_of deck.now) labels.now elements question) concept.0 }
+pub fn every_leaf(deck: &Deck, question: &Question, concept: ConceptId) -> bool
+    requires concept_bound { concept.0 < concept_count (content deck.now) }
+    ensures { result ≡ every_leaf (content deck.now) question.now concept.0 }
 {
-    let expr = concept_at(deck, concept);
+    let expr = deck.concept_at(concept);
     match expr {
-        ConceptExpr::And(list) => operands_answer(deck, labels, elements, question, concept, list),
-        _ => leaf_answer(deck, labels, elements, question, concept),
+        ConceptExpr::And(list) => operands_answer(deck, question, concept, list),
+        _ => leaf_answer(deck, question, concept),
     }
 }

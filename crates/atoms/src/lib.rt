@@ -3,10 +3,12 @@
 
 pub mod antecedent;
 pub mod body;
+pub mod bytes;
 pub mod floor;
 pub mod labels;
 pub mod large;
 pub mod leaves;
+mod lists;
 pub mod marks;
 pub mod occurrences;
 pub mod reasons;

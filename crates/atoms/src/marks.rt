@@ -1,20 +1,22 @@
 // Marks on concepts, a bit each: for walks from a concept's number downward that read each operand list at most once.
 ghost use Rattle.std.specs.Prelude.{◌≡◌, ◌*◌, ◌<◌, ◌≤◌, length, drop};
-ghost use Rattle.deck.specs.Content.{IsAccepted, deck_of};
+ghost use Rattle.deck.specs.Accepted.{content};
+ghost use Rattle.deck.specs.Content.{deck_of};
 ghost use Rattle.deck.specs.Deck.{concept_count};
 ghost use Rattle.deck.specs.Reads.{list_of, ListFits};
 ghost use Rattle.atoms.specs.Label.{insert_all};
 ghost use Rattle.atoms.specs.Leaves.{highest_mark, Next};
 
 use crate::labels::{has_bit, insert_bit};
-use deck::concepts::{ConceptExpr, concept_at};
+use crate::lists::operand;
+use deck::Deck;
+use deck::concepts::ConceptExpr;
 use deck::numbers::ConceptId;
-use deck::rows::{Span, item};
+use deck::rows::Span;
 
-// The highest mark below i, or 16,384: word by word where a word is empty.
-fn highest_mark(marks: &[u64], i: u32) -> u32
+// The highest mark below i: word by word where a word is empty, so in a loop of its own.
+fn highest_mark(marks: &[u64], i: u32) -> Option<ConceptId>
     requires i_in_bounds { i ≤ length marks.now * 64 }
-    requires i_bound { i ≤ 16384 }
     ensures { result ≡ highest_mark marks.now i }
 {
     let mut k = i;
@@ -27,42 +29,99 @@ fn highest_mark(marks: &[u64], i: u32) -> u32
         }
         k -= 1;
         if has_bit(marks, k) {
-            return k;
+            return Some(ConceptId(k));
         }
     }
-    16384
+    None
 }
 
 // The operands of the list from the first on, all below `owner`, are marked.
-pub fn mark_operands(deck: &[u8], owner: u32, list: Span, first: u32, marks: &mut [u64])
-    requires accepted { IsAccepted deck.now }
-    requires list_fits { ListFits deck.now owner list }
-    requires owner_in_bounds { owner ≤ length marks.old * 64 }
-    ensures { marks.new ≡ insert_all marks.old (drop first (list_of deck.now list)) }
+fn mark_operands(deck: &Deck, owner: ConceptId, list: Span, first: u32, marks: &mut [u64])
+    requires list_fits { ListFits deck.now.bytes.now owner.0 list }
+    requires owner_in_bounds { owner.0 ≤ length marks.old * 64 }
+    ensures { marks.new ≡ insert_all marks.old (drop first (list_of deck.now.bytes.now list)) }
 {
-    let count = list.count;
-    let mut i = first;
-    while i < count {
-        insert_bit(marks, item(deck, list, i));
-        i += 1;
+    for i in first..list.count {
+        insert_bit(marks, operand(deck, owner, list, i).0);
     }
 }
 
-// The highest concept below i that is no And, marked or reached from a marked one, or 16,384. An And on the way marks its operands: its list is read here and, the walk going down, not again.
-pub fn next_leaf(deck: &[u8], marks: &mut [u64], i: u32) -> u32
-    requires accepted { IsAccepted deck.now }
-    requires i_bound { i ≤ concept_count (deck_of deck.now) }
+// The highest concept below i that is no And, marked or reached from a marked one. An And on the way marks its operands: its list is read here and, the walk going down, not again.
+fn next_leaf(deck: &Deck, marks: &mut [u64], i: u32) -> Option<ConceptId>
+    requires i_bound { i ≤ concept_count (content deck.now) }
     requires marks_len { length marks.old ≡ 256 }
-    ensures { Next (deck_of deck.now) marks.old i marks.new result }
+    ensures { Next (content deck.now) marks.old i marks.new result }
 {
-    let mut k = highest_mark(marks, i);
-    while k < 16384 {
-        let expr = concept_at(deck, ConceptId(k));
+    let mut below = i;
+    while let Some(k) = highest_mark(marks, below) {
+        let expr = deck.concept_at(k);
         let ConceptExpr::And(list) = expr else {
-            return k;
+            return Some(k);
         };
         mark_operands(deck, k, list, 0, marks);
-        k = highest_mark(marks, k);
+        below = k.0;
     }
-    16384
+    None
+}
+
+// A walk over all that marked concepts lead to, downward from a number: each leaf once.
+#[derive(Drop)]
+pub struct Leaves<'a> {
+    pub deck: Deck<'a>,
+    pub marks: [u64; 256],
+    pub below: u32,
+    ghost bound: { below ≤ concept_count (deck_of deck.bytes.now) },
+    ghost wide: { length marks ≡ 256 },
+}
+
+impl<'a> Leaves<'a> {
+    ghost use Rattle.std.specs.Prelude.{◌<◌, ◌≡◌, ◌∷◌, [], drop};
+    ghost use Rattle.deck.specs.Reads.{list_of, ListFits};
+    ghost use Rattle.atoms.specs.Walking.{Begun};
+
+    // All that the operands of the list from the first on lead to, all below `owner`.
+    pub fn of_operands(deck: &Deck<'a>, owner: ConceptId, list: Span, first: u32) -> Leaves<'a>
+        requires owner_bound { owner.0 < concept_count (content deck.now) }
+        requires list_fits { ListFits deck.now.bytes.now owner.0 list }
+        ensures { Begun deck.now.bytes.now (drop first (list_of deck.now.bytes.now list)) result }
+    {
+        let mut marks: [u64; 256] = [0; 256];
+        mark_operands(deck, owner, list, first, &mut marks);
+        Leaves {
+            deck: *deck,
+            marks,
+            below: owner.0,
+        }
+    }
+
+    // All that the concept leads to.
+    pub fn of_concept(deck: &Deck<'a>, concept: ConceptId) -> Leaves<'a>
+        requires concept_bound { concept.0 < concept_count (content deck.now) }
+        ensures { Begun deck.now.bytes.now (concept.0 ∷ []) result }
+    {
+        let mut marks: [u64; 256] = [0; 256];
+        insert_bit(&mut marks, concept.0);
+        Leaves {
+            deck: *deck,
+            marks,
+            below: concept.0 + 1,
+        }
+    }
+}
+
+impl Iterator for Leaves<'_> {
+    ghost use Rattle.std.specs.Iterator.{at_most};
+    ghost use Rattle.atoms.specs.Walking.{Stepped};
+
+    type Item = ConceptId;
+
+    ghost next_gives = { Stepped };
+
+    ghost remaining = { λ s. at_most s.below };
+
+    fn next(&mut self) -> Option<ConceptId> {
+        let leaf = next_leaf(&self.deck, &mut self.marks, self.below)?;
+        self.below = leaf.0;
+        Some(leaf)
+    }
 }

@@ -1,36 +1,27 @@
 // The occurrences of a body's required atoms where shared operands make them many: tables over the concepts, and the RunDeltas in order.
 ghost use Rattle.std.specs.Prelude.{◌≡◌, ◌+◌, ◌<◌, ◌≤◌, length};
 ghost use mathlib.Core.List.{flat_map};
-ghost use Rattle.deck.specs.Content.{IsAccepted, deck_of};
+ghost use Rattle.deck.specs.Accepted.{content};
 ghost use Rattle.deck.specs.Deck.{class_count, role_count, concept_count};
 ghost use Rattle.deck.specs.Reads.{list_of, ListFits};
 ghost use Rattle.atoms.specs.Walk.{walk};
 ghost use Rattle.atoms.specs.Floor.{required_atoms};
 ghost use Rattle.atoms.specs.Body.{atom_delta};
-ghost use Rattle.atoms.specs.Occurrences.{capped, sum_of, entry_at, logs, has_room, delta_count, noted_deltas, DeltasTo, IsFirst, FirstsTo};
+ghost use Rattle.atoms.specs.Occurrences.{capped, sum_of, entry_at, logs, delta_count, noted_deltas, DeltasTo, IsFirst, FirstsTo};
 
-use crate::reasons::{Reason, note};
+use crate::lists::operand;
+use crate::reasons::{Reason, has_room, note};
 use crate::target_label::{Target, target_label};
-use deck::concepts::{ConceptExpr, concept_at};
+use deck::Deck;
+use deck::concepts::ConceptExpr;
 use deck::numbers::{ClassId, ConceptId, RoleId};
-use deck::rows::{Span, item};
-
-// A sum that stops at 4,294,967,295.
-fn add_capped(a: u32, b: u32) -> u32
-    ensures { result ≡ capped (a + b) }
-{
-    if b < 4294967295 - a {
-        return a + b;
-    }
-    4294967295
-}
+use deck::rows::Span;
 
 // How many RunDeltas an atom gives: 0 or 1.
-fn atom_count(deck: &[u8], r: RoleId, a: ClassId) -> u32
-    requires accepted { IsAccepted deck.now }
-    requires r_bound { r.0 < role_count (deck_of deck.now) }
-    requires a_bound { a.0 < class_count (deck_of deck.now) }
-    ensures { result ≡ length (atom_delta (deck_of deck.now) r.0 a.0) }
+fn atom_count(deck: &Deck, r: RoleId, a: ClassId) -> u32
+    requires r_bound { r.0 < role_count (content deck.now) }
+    requires a_bound { a.0 < class_count (content deck.now) }
+    ensures { result ≡ length (atom_delta (content deck.now) r.0 a.0) }
 {
     let by = target_label(deck, a, r);
     match by {
@@ -41,33 +32,28 @@ fn atom_count(deck: &[u8], r: RoleId, a: ClassId) -> u32
 }
 
 // The sum of the table's words for the concepts of the list, all below `owner`.
-fn sum_entries(deck: &[u8], owner: ConceptId, list: Span, table: &[u32]) -> u32
-    requires accepted { IsAccepted deck.now }
-    requires list_fits { ListFits deck.now owner.0 list }
+fn sum_entries(deck: &Deck, owner: ConceptId, list: Span, table: &[u32]) -> u32
+    requires list_fits { ListFits deck.now.bytes.now owner.0 list }
     requires owner_in_bounds { owner.0 ≤ length table.now }
-    ensures { result ≡ capped (sum_of (entry_at table.now) (list_of deck.now list)) }
+    ensures { result ≡ capped (sum_of (entry_at table.now) (list_of deck.now.bytes.now list)) }
 {
-    let count = list.count;
-    let mut sum = 0;
-    let mut i = 0;
-    while i < count {
-        let o = item(deck, list, i) as usize;
-        sum = add_capped(sum, table[o]);
-        i += 1;
+    let mut sum: u32 = 0;
+    for i in 0..list.count {
+        let o = operand(deck, owner, list, i).0 as usize;
+        sum = sum.saturating_add(table[o]);
     }
     sum
 }
 
 // How many RunDeltas a concept's required atoms give, by the counts of the concepts below it.
-fn delta_entry(deck: &[u8], r: RoleId, concept: ConceptId, table: &[u32]) -> u32
-    requires accepted { IsAccepted deck.now }
-    requires r_bound { r.0 < role_count (deck_of deck.now) }
-    requires concept_bound { concept.0 < concept_count (deck_of deck.now) }
+fn delta_entry(deck: &Deck, r: RoleId, concept: ConceptId, table: &[u32]) -> u32
+    requires r_bound { r.0 < role_count (content deck.now) }
+    requires concept_bound { concept.0 < concept_count (content deck.now) }
     requires concept_in_bounds { concept.0 ≤ length table.now }
-    requires deltas_to { DeltasTo (deck_of deck.now) r.0 table.now concept.0 }
-    ensures { result ≡ delta_count (deck_of deck.now) r.0 concept.0 }
+    requires deltas_to { DeltasTo (content deck.now) r.0 table.now concept.0 }
+    ensures { result ≡ delta_count (content deck.now) r.0 concept.0 }
 {
-    let expr = concept_at(deck, concept);
+    let expr = deck.concept_at(concept);
     match expr {
         ConceptExpr::Atomic(class) => atom_count(deck, r, class),
         ConceptExpr::And(list) => sum_entries(deck, concept, list, table),
@@ -76,46 +62,31 @@ fn delta_entry(deck: &[u8], r: RoleId, concept: ConceptId, table: &[u32]) -> u32
 }
 
 // The table takes the counts of the first `count` concepts in.
-pub fn fill_deltas(deck: &[u8], r: RoleId, table: &mut [u32], count: u32)
-    requires accepted { IsAccepted deck.now }
-    requires r_bound { r.0 < role_count (deck_of deck.now) }
-    requires count_bound { count ≤ concept_count (deck_of deck.now) }
+pub fn fill_deltas(deck: &Deck, r: RoleId, table: &mut [u32], count: u32)
+    requires r_bound { r.0 < role_count (content deck.now) }
+    requires count_bound { count ≤ concept_count (content deck.now) }
     requires count_in_bounds { count ≤ length table.old }
-    ensures { DeltasTo (deck_of deck.now) r.0 table.new count }
+    ensures { DeltasTo (content deck.now) r.0 table.new count }
 {
-    let mut k = 0;
-    while k < count {
-        let entry = delta_entry(deck, r, ConceptId(k), table);
-        table[k as usize] = entry;
-        k += 1;
+    for k in 0..count {
+        table[k as usize] = delta_entry(deck, r, ConceptId(k), table);
     }
-}
-
-// Would one more reason be written, where `total` were given?
-fn has_room(log: &[u32], total: u32) -> bool
-    ensures { result ≡ has_room log.now total }
-{
-    if total < 4294967295 {
-        return (total as usize) < log.len() / 3;
-    }
-    false
 }
 
 // The RunDeltas of a concept's required atoms, in order; the new total. Without room for one more only the count is taken.
 #[cycle(note_deltas_note_operands)]
 pub fn note_deltas(
-    deck: &[u8],
+    deck: &Deck,
     r: RoleId,
     concept: ConceptId,
     table: &[u32],
     log: &mut [u32],
     total: u32,
 ) -> u32
-    requires accepted { IsAccepted deck.now }
-    requires concept_bound { concept.0 < concept_count (deck_of deck.now) }
+    requires concept_bound { concept.0 < concept_count (content deck.now) }
     requires concept_in_bounds { concept.0 < length table.now }
-    requires deltas_to { DeltasTo (deck_of deck.now) r.0 table.now (concept.0 + 1) }
-    ensures { logs log.new result ≡ noted_deltas (deck_of deck.now) r.0 concept.0 (logs log.old total) }
+    requires deltas_to { DeltasTo (content deck.now) r.0 table.now (concept.0 + 1) }
+    ensures { logs log.new result ≡ noted_deltas (content deck.now) r.0 concept.0 (logs log.old total) }
 {
     let k = concept.0 as usize;
     let known = table[k];
@@ -123,11 +94,11 @@ pub fn note_deltas(
         return total;
     }
     if !has_room(log, total) {
-        return add_capped(total, known);
+        return total.saturating_add(known);
     }
-    let expr = concept_at(deck, concept);
+    let expr = deck.concept_at(concept);
     match expr {
-        ConceptExpr::Atomic(class) => note(log, total, Reason::run_delta(class)),
+        ConceptExpr::Atomic(class) => note(log, total, Reason::RunDelta(class)),
         ConceptExpr::And(list) => note_operands(deck, r, concept, list, table, log, total),
         _ => total,
     }
@@ -136,7 +107,7 @@ pub fn note_deltas(
 // The same of each concept of the list, all below `owner`.
 #[cycle(note_deltas_note_operands)]
 fn note_operands(
-    deck: &[u8],
+    deck: &Deck,
     r: RoleId,
     owner: ConceptId,
     list: Span,
@@ -144,54 +115,44 @@ fn note_operands(
     log: &mut [u32],
     total: u32,
 ) -> u32
-    requires accepted { IsAccepted deck.now }
-    requires owner_bound { owner.0 < concept_count (deck_of deck.now) }
-    requires list_fits { ListFits deck.now owner.0 list }
+    requires owner_bound { owner.0 < concept_count (content deck.now) }
+    requires list_fits { ListFits deck.now.bytes.now owner.0 list }
     requires owner_in_bounds { owner.0 ≤ length table.now }
-    requires deltas_to { DeltasTo (deck_of deck.now) r.0 table.now owner.0 }
-    ensures { logs log.new result ≡ walk (noted_deltas (deck_of deck.now) r.0) (list_of deck.now list) (logs log.old total) }
+    requires deltas_to { DeltasTo (content deck.now) r.0 table.now owner.0 }
+    ensures { logs log.new result ≡ walk (noted_deltas (content deck.now) r.0) (list_of deck.now.bytes.now list) (logs log.old total) }
 {
-    let count = list.count;
-    let mut i = 0;
     let mut held = total;
-    while i < count {
-        let next = note_deltas(deck, r, ConceptId(item(deck, list, i)), table, log, held);
-        held = next;
-        i += 1;
+    for i in 0..list.count {
+        held = note_deltas(deck, r, operand(deck, owner, list, i), table, log, held);
     }
     held
 }
 
-// The first atom of the concepts of the list, all below `owner`, or 4,294,967,295 for none.
-fn first_in(deck: &[u8], owner: ConceptId, list: Span, table: &[u32]) -> u32
-    requires accepted { IsAccepted deck.now }
-    requires list_fits { ListFits deck.now owner.0 list }
+// The first atom of the concepts of the list, all below `owner`, or 4,294,967,295 for none: a word of the table, which has no room for an Option.
+fn first_in(deck: &Deck, owner: ConceptId, list: Span, table: &[u32]) -> u32
+    requires list_fits { ListFits deck.now.bytes.now owner.0 list }
     requires owner_in_bounds { owner.0 ≤ length table.now }
-    requires firsts_to { FirstsTo (deck_of deck.now) table.now owner.0 }
-    ensures { IsFirst (flat_map (required_atoms (deck_of deck.now)) (list_of deck.now list)) result }
+    requires firsts_to { FirstsTo (content deck.now) table.now owner.0 }
+    ensures { IsFirst (flat_map (required_atoms (content deck.now)) (list_of deck.now.bytes.now list)) result }
 {
-    let count = list.count;
-    let mut i = 0;
-    while i < count {
-        let o = item(deck, list, i) as usize;
+    for i in 0..list.count {
+        let o = operand(deck, owner, list, i).0 as usize;
         let x = table[o];
         if x != 4294967295 {
             return x;
         }
-        i += 1;
     }
     4294967295
 }
 
 // A concept's first required atom, by those of the concepts below it.
-fn first_entry(deck: &[u8], concept: ConceptId, table: &[u32]) -> u32
-    requires accepted { IsAccepted deck.now }
-    requires concept_bound { concept.0 < concept_count (deck_of deck.now) }
+fn first_entry(deck: &Deck, concept: ConceptId, table: &[u32]) -> u32
+    requires concept_bound { concept.0 < concept_count (content deck.now) }
     requires concept_in_bounds { concept.0 ≤ length table.now }
-    requires firsts_to { FirstsTo (deck_of deck.now) table.now concept.0 }
-    ensures { IsFirst (required_atoms (deck_of deck.now) concept.0) result }
+    requires firsts_to { FirstsTo (content deck.now) table.now concept.0 }
+    ensures { IsFirst (required_atoms (content deck.now) concept.0) result }
 {
-    let expr = concept_at(deck, concept);
+    let expr = deck.concept_at(concept);
     match expr {
         ConceptExpr::Atomic(class) => class.0,
         ConceptExpr::And(list) => first_in(deck, concept, list, table),
@@ -200,16 +161,12 @@ fn first_entry(deck: &[u8], concept: ConceptId, table: &[u32]) -> u32
 }
 
 // The table takes the first required atoms of the first `count` concepts in.
-pub fn fill_firsts(deck: &[u8], table: &mut [u32], count: u32)
-    requires accepted { IsAccepted deck.now }
-    requires count_bound { count ≤ concept_count (deck_of deck.now) }
+pub fn fill_firsts(deck: &Deck, table: &mut [u32], count: u32)
+    requires count_bound { count ≤ concept_count (content deck.now) }
     requires count_in_bounds { count ≤ length table.old }
-    ensures { FirstsTo (deck_of deck.now) table.new count }
+    ensures { FirstsTo (content deck.now) table.new count }
 {
-    let mut k = 0;
-    while k < count {
-        let entry = first_entry(deck, ConceptId(k), table);
-        table[k as usize] = entry;
-        k += 1;
+    for k in 0..count {
+        table[k as usize] = first_entry(deck, ConceptId(k), table);
     }
 }

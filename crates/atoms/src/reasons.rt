@@ -1,56 +1,72 @@
 // The log of reasons: three words a reason.
-ghost use Rattle.std.specs.Prelude.{◌≡◌, ◌+◌, ◌*◌, ◌/◌, ◌<◌, length};
-ghost use Rattle.atoms.specs.Reasons.{label_not_closed, run_delta, bound_tripped, axioms_dropped, logged, noted, counted};
+ghost use Rattle.std.specs.Prelude.{◌≡◌, ◌/◌, ◌<◌, length};
+ghost use Rattle.atoms.specs.Reasons.{bound_number, label_not_closed, run_delta, bound_tripped, axioms_dropped, words_of, logged, has_room, noted, counted};
 
 use deck::numbers::{ClassId, RoleId};
 
-// 1 LabelNotClosed, 2 RunDelta, 3 BoundTripped or 4 AxiomsDroppedAtConversion, and two words.
-#[derive(Clone, Copy)]
-pub struct Reason {
-    pub kind: u32,
-    pub first: u32,
-    pub second: u32,
+// A bound of a run.
+#[derive(Clone, Copy, Debug, PartialEq, Eq)]
+pub enum Bound {
+    Elements,
+    Edges,
+    Rounds,
+}
+
+impl Bound {
+    fn number(self) -> u32
+        ensures { result ≡ bound_number self }
+    {
+        match self {
+            Bound::Elements => 0,
+            Bound::Edges => 1,
+            Bound::Rounds => 2,
+        }
+    }
+}
+
+// A bound that tripped has its limit with it. The axioms are those dropped at conversion.
+#[derive(Clone, Copy, Debug, PartialEq, Eq)]
+pub enum Reason {
+    LabelNotClosed(ClassId, RoleId),
+    RunDelta(ClassId),
+    BoundTripped(Bound, u32),
+    AxiomsDropped(u32),
 }
 
 impl Reason {
     pub fn label_not_closed(class: ClassId, role: RoleId) -> Reason
         ensures { result ≡ label_not_closed class.0 role.0 }
     {
-        Reason {
-            kind: 1,
-            first: class.0,
-            second: role.0,
-        }
+        Reason::LabelNotClosed(class, role)
     }
 
     pub fn run_delta(class: ClassId) -> Reason
         ensures { result ≡ run_delta class.0 }
     {
-        Reason {
-            kind: 2,
-            first: class.0,
-            second: 0,
-        }
+        Reason::RunDelta(class)
     }
 
-    // The bound on elements is 0, on edges 1, on rounds 2.
-    pub fn bound_tripped(bound: u32, limit: u32) -> Reason
-        ensures { result ≡ bound_tripped bound limit }
+    pub fn bound_tripped(bound: Bound, limit: u32) -> Reason
+        ensures { result ≡ bound_tripped (bound_number bound) limit }
     {
-        Reason {
-            kind: 3,
-            first: bound,
-            second: limit,
-        }
+        Reason::BoundTripped(bound, limit)
     }
 
     pub fn axioms_dropped(dropped: u32) -> Reason
         ensures { result ≡ axioms_dropped dropped }
     {
-        Reason {
-            kind: 4,
-            first: dropped,
-            second: 0,
+        Reason::AxiomsDropped(dropped)
+    }
+
+    // As the log has it.
+    fn words(self) -> [u32; 3]
+        ensures { result ≡ words_of self }
+    {
+        match self {
+            Reason::LabelNotClosed(class, role) => [1, class.0, role.0],
+            Reason::RunDelta(class) => [2, class.0, 0],
+            Reason::BoundTripped(bound, limit) => [3, bound.number(), limit],
+            Reason::AxiomsDropped(dropped) => [4, dropped, 0],
         }
     }
 }
@@ -60,21 +76,25 @@ fn store(log: &mut [u32], n: usize, r: Reason)
     requires { n < length log.old / 3 }
     ensures { log.new ≡ logged log.old n r }
 {
-    log[n * 3] = r.kind;
-    log[n * 3 + 1] = r.first;
-    log[n * 3 + 2] = r.second;
+    let words = r.words();
+    log[n * 3] = words[0];
+    log[n * 3 + 1] = words[1];
+    log[n * 3 + 2] = words[2];
 }
 
-// One more reason, where `total` were given; the new total.
+// Would one more reason be written, where `total` were given?
+pub fn has_room(log: &[u32], total: u32) -> bool
+    ensures { result ≡ has_room log.now total }
+{
+    total < u32::MAX && (total as usize) < log.len() / 3
+}
+
+// One more reason, where `total` were given; the new total. A struct of both would hold a `&mut`, and every function that takes it would have to say that it stays the same one.
 pub fn note(log: &mut [u32], total: u32, r: Reason) -> u32
     ensures { (log.new ≡ noted log.old total r) × (result ≡ counted total) }
 {
-    if total < 4294967295 {
-        if (total as usize) < log.len() / 3 {
-            store(log, total as usize, r);
-            return total + 1;
-        }
-        return total + 1;
+    if has_room(log, total) {
+        store(log, total as usize, r);
     }
-    total
+    total.saturating_add(1)
 }

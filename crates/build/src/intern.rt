@@ -8,7 +8,7 @@ ghost use Rattle.build.specs.Intern.{index_of, Found};
 ghost use Rattle.build.specs.Building.{HasPlace, Interns, label_in, model_of};
 
 use crate::building::Build;
-use atoms::floor::apply_floor;
+use atoms::bytes::apply_floor;
 use deck::numbers::Element;
 
 // The last word of the label that has a class, where labels mostly differ.

@@ -8,7 +8,7 @@ ghost use Rattle.build.specs.Prints.{mixed, print_to, slot_of, Chained};
 
 use crate::building::Build;
 use crate::intern::row;
-use atoms::floor::apply_floor;
+use atoms::bytes::apply_floor;
 use deck::numbers::Element;
 
 // A fingerprint takes word w of place i in.

@@ -7,7 +7,7 @@ ghost use Rattle.build.specs.Building.{HasRoom, Same, Pushed, state_of};
 
 use crate::building::{Build, Tripped};
 use crate::tally::{Step, Tally};
-use atoms::reasons::{Reason, note};
+use atoms::reasons::{Bound, Reason, note};
 use eval::edges::{Edge, edge_at};
 
 fn append(edges: &mut [[u32; 3]], count: u32, e: Edge)
@@ -55,7 +55,7 @@ impl Build<'_, '_> {
         self.append(e);
         self.tally.edges += 1;
         if self.plan.bounds.max_edges < self.tally.edges {
-            self.note(Reason::bound_tripped(1, self.plan.bounds.max_edges));
+            self.note(Reason::bound_tripped(Bound::Edges, self.plan.bounds.max_edges));
             return Err(Tripped);
         }
         Ok(())
@@ -86,7 +86,7 @@ pub fn add_edge(limit: u32, edges: &mut [[u32; 3]], log: &mut [u32], t: Tally, e
     let mut reasons = t.reasons;
     let trips = limit < count;
     if trips {
-        reasons = note(log, reasons, Reason::bound_tripped(1, limit));
+        reasons = note(log, reasons, Reason::bound_tripped(Bound::Edges, limit));
     }
     Step {
         tally: Tally {

@@ -14,7 +14,7 @@ use crate::bounds::Bounds;
 use crate::building::{Build, Tripped};
 use crate::plan::Plan;
 use crate::tally::{Step, Tally};
-use atoms::reasons::Reason;
+use atoms::reasons::{Bound, Reason};
 use deck::Deck;
 use deck::numbers::{Element, RoleId};
 use eval::edges::Edge;
@@ -33,7 +33,7 @@ impl Build<'_, '_> {
         ensures { Pushed self.old self.new (is_err result) (spec.linked self.old.plan.bounds self.old.tally.elements (edge role.0 from.0 to.0) (state_of self.old)) }
     {
         if self.plan.bounds.max_elements < self.tally.elements {
-            self.note(Reason::bound_tripped(0, self.plan.bounds.max_elements));
+            self.note(Reason::bound_tripped(Bound::Elements, self.plan.bounds.max_elements));
             return Err(Tripped);
         }
         self.push_edge(Edge { role, from, to }, since)

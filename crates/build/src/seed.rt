@@ -15,7 +15,7 @@ use crate::building::Build;
 use crate::plan::Plan;
 use crate::tally::Tally;
 use atoms::labels;
-use atoms::subsumers::load_row;
+use atoms::bytes::load_row;
 use deck::Deck;
 use deck::numbers::{ClassId, Element};
 

@@ -16,11 +16,11 @@ ghost use Rattle.atoms.specs.Target.{TargetFits};
 
 use crate::fact_index::{entry, index_facts, mark_facts, next_class, put};
 use crate::recall::recall_rows;
+use atoms::bytes::{load_row, target_label};
 use atoms::labels::{has_bit, insert_bit};
 use atoms::reasons;
 use atoms::reasons::Reason;
-use atoms::subsumers::load_row;
-use atoms::target_label::{Target, target_label};
+use atoms::target_label::Target;
 use build::bounds::Bounds;
 use build::push::push_edge;
 use build::reach::reach;

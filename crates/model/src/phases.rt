@@ -16,7 +16,7 @@ ghost use Rattle.build.specs.Seed.{Seeded};
 use crate::closing::close_chains_and_transitivity;
 use crate::expand::expand;
 use crate::rounds::expand_from_axioms;
-use atoms::floor::compute_top_floor;
+use atoms::bytes::compute_top_floor;
 use atoms::reasons::{Reason, note};
 use build::bounds::Bounds;
 use build::seed::seed;

@@ -8,9 +8,8 @@ ghost use Rattle.build.specs.Prints.{Chained};
 ghost use Rattle.model.specs.FactIndex.{Recalled};
 
 use crate::fact_index::{entry, put};
-use atoms::floor::apply_floor;
-use atoms::subsumers::load_row;
-use atoms::target_label::{Target, target_label};
+use atoms::bytes::{apply_floor, load_row, target_label};
+use atoms::target_label::Target;
 use build::intern::row_start;
 use build::prints::{chain, find_by, slot_of};
 use deck::facts::{fact_at, fact_count};

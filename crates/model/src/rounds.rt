@@ -11,9 +11,8 @@ ghost use Rattle.model.specs.Still.{Stands};
 
 use crate::still::Still;
 use crate::triggers::{may_add, next_axiom, read_triggers, row_of};
-use atoms::antecedent::fires;
-use atoms::reasons::{Reason, note};
-use atoms::visits::fill_sizes;
+use atoms::bytes::{fill_sizes, fires};
+use atoms::reasons::{Bound, Reason, note};
 use build::bounds::Bounds;
 use build::exists::materialise_exists_sized;
 use build::tally::{Step, Tally, unchanged};
@@ -374,7 +373,7 @@ fn later_rounds(most: u32) -> u32
 fn trip_rounds(log: &mut [u32], limit: u32, t: Tally) -> Step
     ensures { (log.new ≡ noted log.old t.reasons (bound_tripped 2 limit)) × (result ≡ record { tally = record { elements = t.elements; edges = t.edges; reasons = counted t.reasons }; tripped = true }) }
 {
-    let reason = Reason::bound_tripped(2, limit);
+    let reason = Reason::bound_tripped(Bound::Rounds, limit);
     let reasons = note(log, t.reasons, reason);
     Step::tripping(t.with_reasons(reasons))
 }

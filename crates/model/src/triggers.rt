@@ -9,7 +9,7 @@ ghost use Rattle.atoms.specs.Antecedent.{is_rule, holds_atoms};
 ghost use Rattle.build.specs.Exists.{builds_at};
 ghost use Rattle.model.specs.Triggers.{may_add, Needs, Trigger, Entry, Triggers, run_at, step_in, Chain, Steps};
 
-use atoms::antecedent::is_rule;
+use atoms::bytes::is_rule;
 use build::idle::builds_at;
 use deck::axioms::{axiom_at, axiom_count};
 use deck::concepts::{ConceptExpr, concept_at};

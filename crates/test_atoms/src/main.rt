@@ -9,7 +9,7 @@
 ghost use Rattle.std.specs.Prelude.{◌≡◌, length};
 ghost use Rattle.deck.specs.Content.{IsAccepted};
 
-use atoms::floor::is_universal_antecedent;
+use atoms::bytes::is_universal_antecedent;
 use cases::each::each_case;
 use cases::input::read_full;
 use cases::room;

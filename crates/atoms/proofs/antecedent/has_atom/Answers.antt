@@ -12,4 +12,4 @@ not-not false = refl
 
 pub returns : goal.returns
 returns c =
-    ap not (c.answer_soon.ensures ∙ sym (atom-leaves _ (sound _ c.requires.accepted) c.args.concept.0)) ∙ not-not (has_atom (deck_of c.args.deck.now) c.args.concept.0)
+    ap not (c.answer_soon.ensures ∙ sym (atom-leaves _ (sound _ c.args.deck.now.accepted) c.args.concept.0)) ∙ not-not (has_atom (deck_of c.args.deck.now.bytes.now) c.args.concept.0)

@@ -5,4 +5,4 @@ use Rattle.atoms.proofs.antecedent.holds_atoms.Goals as goal
 
 pub returns : goal.returns
 returns c =
-    c.answer_soon.ensures ∙ sym (holds-leaves _ (sound _ c.requires.accepted) c.args.e _ c.args.concept.0)
+    c.answer_soon.ensures ∙ sym (holds-leaves _ (sound _ c.args.deck.now.accepted) c.args.label c.args.concept.0)

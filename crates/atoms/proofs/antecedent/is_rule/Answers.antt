@@ -4,8 +4,9 @@ use Rattle.atoms.proofs.antecedent.is_rule.Goals as goal
 
 pub returns-then-has_atom : goal.returns-then-has_atom
 returns-then-has_atom c =
-    rule-atom _ _ (sym c.has_atom.ensures ∙ c.if-has_atom.true)
+    let e = sym c.has_atom.ensures ∙ c.if-has_atom.true in
+    c.if-has_atom.true ∙ rule-atom _ _ e
 
-pub returns : goal.returns
-returns c =
+pub returns-else-has_atom : goal.returns-else-has_atom
+returns-else-has_atom c =
     c.is_universal_antecedent.ensures ∙ rule-universal _ _ (sym c.has_atom.ensures ∙ c.if-has_atom.false)

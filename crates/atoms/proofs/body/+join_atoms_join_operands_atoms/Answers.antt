@@ -1,63 +1,31 @@
 use borrow.Enum.Refused.{opened}
-use mathlib.Core.Path.{refl, sym, ◌∙◌}
+use mathlib.Core.Path.{sym, ◌∙◌}
 use native.Mathlib.Omega.{arith}
 use Rattle.deck.specs.Reads.{list_of}
 use Rattle.deck.proofs.TableLaws.{list_length}
 use Rattle.atoms.proofs.WalkLaws.{walk_end, walk_step}
-use Rattle.atoms.proofs.FloorLaws.{fits_read}
 use Rattle.atoms.proofs.BodyLaws.{joined-atomic, joined-and, joined-other}
 use Rattle.atoms.proofs.body.+join_atoms_join_operands_atoms.Goals as goal
 
-pub join_atoms-concept_at-expr-requires : goal.join_atoms-concept_at-expr-requires
-join_atoms-concept_at-expr-requires t c =
-    record { accepted = c.requires.accepted; concept_bound = c.requires.concept_bound }
-
-pub join_atoms-join_atom-requires : goal.join_atoms-join_atom-requires
-join_atoms-join_atom-requires t c =
-    record { accepted = c.requires.accepted; r_bound = c.requires.r_bound; a_bound = fits_read _ c.requires.accepted c.args.concept.0 c.concept_at-expr.ensures _ c.in-Atomic.is; label_len = c.requires.label_len }
-
-pub join_atoms-join_operands_atoms-requires : goal.join_atoms-join_operands_atoms-requires
-join_atoms-join_operands_atoms-requires t c =
-    let f = fits_read _ c.requires.accepted c.args.concept.0 c.concept_at-expr.ensures _ c.in-And.is in
-    (omega (arith), (c.requires.accepted, (c.requires.r_bound, (c.requires.concept_bound, (f, c.requires.label_len)))))
-
 pub join_atoms-returns-in-Atomic : goal.join_atoms-returns-in-Atomic
 join_atoms-returns-in-Atomic t c =
-    c.join_atom.ensures ∙ joined-atomic _ c.requires.accepted c.args.concept.0 c.concept_at-expr.ensures _ _ _ c.in-Atomic.is
+    c.join_atom.ensures ∙ joined-atomic _ c.args.deck.now.accepted c.args.concept.0 c.concept_at-expr.ensures _ _ _ c.in-Atomic.is
 
 pub join_atoms-returns-in-And : goal.join_atoms-returns-in-And
 join_atoms-returns-in-And t c =
-    c.join_operands_atoms.ensures ∙ joined-and _ c.requires.accepted c.args.concept.0 c.concept_at-expr.ensures _ _ _ c.in-And.is
+    c.join_operands_atoms.ensures ∙ joined-and _ c.args.deck.now.accepted c.args.concept.0 c.concept_at-expr.ensures _ _ _ c.in-And.is
 
 pub join_atoms-returns-in_default : goal.join_atoms-returns-in_default
 join_atoms-returns-in_default t c =
-    joined-other _ c.requires.accepted c.args.concept.0 c.concept_at-expr.ensures _ _ (opened c.in_default.in_default-own.keys3)
-
-pub join_operands_atoms-loop-i-init : goal.join_operands_atoms-loop-i-init
-join_operands_atoms-loop-i-init t c =
-    (omega arith, refl, refl, refl)
-
-pub join_operands_atoms-item-requires : goal.join_operands_atoms-item-requires
-join_operands_atoms-item-requires t c =
-    record { accepted = c.requires.accepted; within = c.requires.list_fits.within; i_lt_count = omega arith }
-
-pub join_operands_atoms-join_atoms-next-requires : goal.join_operands_atoms-join_atoms-next-requires
-join_operands_atoms-join_atoms-next-requires t c =
-    let l = c.args.list in
-    let o = c.requires.list_fits.below c.loop-i.i (omega (arith, list_length c.args.deck.now l.start l.count)) in
-    (omega (arith, o, c.item.ensures), (c.requires.accepted, (c.requires.r_bound, (omega (arith, o, c.requires.owner_bound, c.item.ensures), c.loop-i.invariant.1 ∙ c.requires.label_len))))
-
-pub join_operands_atoms-overflow_add-i : goal.join_operands_atoms-overflow_add-i
-join_operands_atoms-overflow_add-i t c =
-    omega (arith, c.type_inv)
+    joined-other _ c.args.deck.now.accepted c.args.concept.0 c.concept_at-expr.ensures _ _ (opened c.in_default.in_default-own.keys3)
 
 pub join_operands_atoms-loop-i-preserved : goal.join_operands_atoms-loop-i-preserved
 join_operands_atoms-loop-i-preserved t c =
     let l = c.args.list in
     let w = c.loop-i in
-    (omega arith, omega (arith, c.join_atoms-next.auto.label, w.invariant.1), omega (arith, c.join_atoms-next.auto.log, w.invariant.2), w.invariant.3 ∙ walk_step 0 _ (list_of c.args.deck.now l) w.i _ (omega (arith, list_length c.args.deck.now l.start l.count)) (rw c.item.ensures at c.join_atoms-next.ensures))
+    w.invariant ∙ walk_step 0 _ (list_of c.args.deck.now.bytes.now l) w.i _ (omega (arith, list_length c.args.deck.now.bytes.now l.start l.count)) (rw c.operand.ensures.is at c.join_atoms-held.ensures)
 
 pub join_operands_atoms-returns : goal.join_operands_atoms-returns
 join_operands_atoms-returns t c =
     let l = c.args.list in
-    walk_end 0 _ (list_of c.args.deck.now l) c.loop-i.i _ (omega (arith, list_length c.args.deck.now l.start l.count)) ∙ sym c.loop-i.invariant.3
+    walk_end 0 _ (list_of c.args.deck.now.bytes.now l) c.loop-i.i _ (omega (arith, list_length c.args.deck.now.bytes.now l.start l.count)) ∙ sym c.loop-i.invariant

@@ -1,6 +1,6 @@
-use Prim.Native.Nat.{◌+◌, ◌*◌, ◌-◌, ◌≤◌}
+use Prim.Native.Nat.{◌+◌, ◌*◌}
 use mathlib.Core.Path.{◌≡◌}
-use lib.ListN.{length, drop}
+use lib.ListN.{drop}
 use Rattle.deck.specs.Content.{deck_of}
 use Rattle.deck.specs.Reads.{list_of}
 use Rattle.atoms.specs.Walk.{walk}
@@ -14,7 +14,4 @@ abbrev pub decreases-join_operands_atoms : goal.decreases-join_operands_atoms
 decreases-join_operands_atoms l = l.owner.0 * 2
 
 abbrev pub invariant-join_operands_atoms-loop-i : goal.invariant-join_operands_atoms-loop-i
-invariant-join_operands_atoms-loop-i l = (l.i ≤ l.count) × (length l.label ≡ length l.initial.label) × (length l.log ≡ length l.initial.log) × (walk (join_atoms (deck_of l.deck) l.r.0) (list_of l.deck l.list) (body l.initial.label l.initial.log l.initial.held) ≡ walk (join_atoms (deck_of l.deck) l.r.0) (drop l.i (list_of l.deck l.list)) (body l.label l.log l.held))
-
-abbrev pub decreases-join_operands_atoms-loop-i : goal.decreases-join_operands_atoms-loop-i
-decreases-join_operands_atoms-loop-i l = l.count - l.i
+invariant-join_operands_atoms-loop-i l = walk (join_atoms (deck_of l.deck.bytes.now) l.r.0) (list_of l.deck.bytes.now l.list) (body l.initial.label l.initial.log l.initial.held) ≡ walk (join_atoms (deck_of l.deck.bytes.now) l.r.0) (drop l.i (list_of l.deck.bytes.now l.list)) (body l.label l.log l.held)

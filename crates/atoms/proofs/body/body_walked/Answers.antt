@@ -1,21 +1,15 @@
 use borrow.Author.Tests.{not-true, not-false}
-use mathlib.Core.Path.{◌∙◌, ap}
-use lib.ListN.{length, length-replicate}
 use Rattle.atoms.proofs.BodyLaws.{close-none, close-all, close_open}
 use Rattle.atoms.proofs.body.body_walked.Goals as goal
 
-pub join_atoms-j-requires : goal.join_atoms-j-requires
-join_atoms-j-requires c =
-    record { accepted = c.requires.accepted; r_bound = c.requires.r_bound; concept_bound = c.requires.concept_bound; label_len = ap length c.clear.ensures ∙ length-replicate _ 0 ∙ c.requires.label_len }
+pub returns-in_default : goal.returns-in_default
+returns-in_default c =
+    close-none _ _ _ _ _ c.args.label.now _ c.clear.ensures c.requires.label_len c.join_atoms-j.ensures c.in_default.is c.join_ranges.ensures
 
 pub returns-then-not-j : goal.returns-then-not-j
 returns-then-not-j c =
-    close-none _ _ _ _ _ c.args.label.now _ c.clear.ensures c.requires.label_len c.join_atoms-j.ensures (not-true _ c.if-not-j.true) c.join_ranges.ensures
-
-pub returns-then-not-j-2 : goal.returns-then-not-j-2
-returns-then-not-j-2 c =
-    close-all _ _ _ _ _ c.args.label.now _ c.clear.ensures c.requires.label_len c.join_atoms-j.ensures (not-false _ c.if-not-j.false) (not-true _ c.if-not-j-2.true)
+    close-all _ _ _ _ _ c.args.label.now _ c.clear.ensures c.requires.label_len c.join_atoms-j.ensures c.in-Some.is (not-true _ c.if-not-j.true)
 
 pub returns : goal.returns
 returns c =
-    close_open _ _ _ _ _ c.args.label.now _ c.clear.ensures c.requires.label_len c.join_atoms-j.ensures (not-false _ c.if-not-j.false) (not-false _ c.if-not-j-2.false) (rw c.label_not_closed-reason.ensures at c.note.ensures.0) c.note.ensures.1
+    close_open _ _ _ _ _ c.args.label.now _ c.clear.ensures c.requires.label_len c.join_atoms-j.ensures c.in-Some.is (not-false _ c.if-not-j.false) c.note.ensures.0 c.note.ensures.1

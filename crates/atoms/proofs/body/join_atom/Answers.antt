@@ -1,25 +1,14 @@
-use Rattle.deck.specs.Content.{deck_of}
-use mathlib.Core.Path.{subst}
-use Rattle.atoms.specs.Target.{TargetFits}
 use Rattle.atoms.proofs.BodyLaws.{joined-row, joined-delta, joined-open}
 use Rattle.atoms.proofs.body.join_atom.Goals as goal
 
-pub insert_subsumers-requires : goal.insert_subsumers-requires
-insert_subsumers-requires c =
-    record { accepted = c.requires.accepted; class_bound = subst (TargetFits (deck_of c.args.deck.now)) c.in-Row.is c.target_label-by.ensures.target_fits; label_len = c.requires.label_len }
-
-pub insert_subsumers-requires-in-Delta : goal.insert_subsumers-requires-in-Delta
-insert_subsumers-requires-in-Delta c =
-    record { accepted = c.requires.accepted; class_bound = subst (TargetFits (deck_of c.args.deck.now)) c.in-Delta.is c.target_label-by.ensures.target_fits; label_len = c.requires.label_len }
-
 pub returns-in-Row : goal.returns-in-Row
 returns-in-Row c =
-    joined-row _ _ _ c.target_label-by.ensures.value _ _ _ c.with_atom-k.ensures _ c.in-Row.is c.insert_subsumers.ensures
+    joined-row _ _ _ c.join_target.ensures.value _ _ _ c.with-met.ensures c.join_target.ensures.taken _ c.in-Row.is
 
 pub returns-in-Delta : goal.returns-in-Delta
 returns-in-Delta c =
-    joined-delta _ _ _ c.target_label-by.ensures.value _ _ _ c.with_atom-k.ensures _ c.in-Delta.is c.insert_subsumers-in-Delta.ensures (rw c.run_delta-reason.ensures at c.note-reasons.ensures.0) c.note-reasons.ensures.1
+    joined-delta _ _ _ c.join_target.ensures.value _ _ _ c.with-met.ensures c.join_target.ensures.taken _ c.in-Delta.is c.note-reasons.ensures.0 c.note-reasons.ensures.1
 
 pub returns-in-NotClosed : goal.returns-in-NotClosed
 returns-in-NotClosed c =
-    joined-open _ _ _ c.target_label-by.ensures.value _ _ _ c.with_atom-k.ensures c.in-NotClosed.is c.insert_subsumers-in-NotClosed.ensures
+    joined-open _ _ _ c.join_target.ensures.value _ _ _ c.with-met.ensures c.join_target.ensures.taken c.in-NotClosed.is

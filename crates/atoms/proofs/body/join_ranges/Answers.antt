@@ -4,37 +4,21 @@ use Rattle.deck.proofs.TableLaws.{list_length}
 use Rattle.deck.specs.Reads.{list_of}
 use Rattle.deck.specs.Content.{deck_of}
 use native.Mathlib.Omega.{arith}
-use mathlib.Core.Path.{refl, sym, ◌∙◌}
+use mathlib.Core.Path.{sym, ◌∙◌}
 use Rattle.atoms.proofs.body.join_ranges.Goals as goal
-
-pub range_of-list-requires : goal.range_of-list-requires
-range_of-list-requires c =
-    record { accepted = c.requires.accepted; role_bound = c.requires.r_bound }
-
-pub loop-i-init : goal.loop-i-init
-loop-i-init c =
-    (omega arith, refl, refl)
-
-pub item-requires : goal.item-requires
-item-requires c =
-    record { accepted = c.requires.accepted; within = c.range_of-list.ensures.fits.within; i_lt_count = omega arith }
 
 pub insert_subsumers-requires : goal.insert_subsumers-requires
 insert_subsumers-requires c =
     let l = c.range_of-list.result in
-    let o = c.range_of-list.ensures.fits.below c.loop-i.i (omega (arith, list_length c.args.deck.now l.start l.count)) in record { accepted = c.requires.accepted; class_bound = omega (arith, o, c.item.ensures); label_len = c.loop-i.invariant.1 ∙ c.requires.label_len }
-
-pub overflow_add-i : goal.overflow_add-i
-overflow_add-i c =
-    omega (arith, c.type_inv)
+    let o = c.range_of-list.ensures.fits.below c.loop-i.i (omega (arith, list_length c.args.deck.now.bytes.now l.start l.count)) in record { class_bound = omega (arith, o, c.item.ensures); label_len = omega (arith, c.loop-i.auto.label, c.requires.label_len) }
 
 pub loop-i-preserved : goal.loop-i-preserved
 loop-i-preserved c =
     let l = c.range_of-list.result in
     let w = c.loop-i in
-    (omega arith, omega (arith, c.insert_subsumers.auto.label, w.invariant.1), w.invariant.2 ∙ taken_step 0 (list_of c.args.deck.now l) w.i _ w.label (omega (arith, list_length c.args.deck.now l.start l.count)) (rw c.item.ensures at c.insert_subsumers.ensures))
+    w.invariant ∙ taken_step 0 (list_of c.args.deck.now.bytes.now l) w.i _ w.label (omega (arith, list_length c.args.deck.now.bytes.now l.start l.count)) (rw c.item.ensures at c.insert_subsumers.ensures)
 
 pub returns : goal.returns
 returns c =
     let l = c.range_of-list.result in
-    rw c.range_of-list.ensures.is at (taken-end 0 (list_of c.args.deck.now l) c.loop-i.i (row_of_class (deck_of c.args.deck.now)) _ (omega (arith, list_length c.args.deck.now l.start l.count)) ∙ sym c.loop-i.invariant.2)
+    rw c.range_of-list.ensures.is at (taken-end 0 (list_of c.args.deck.now.bytes.now l) c.loop-i.i (row_of_class (deck_of c.args.deck.now.bytes.now)) _ (omega (arith, list_length c.args.deck.now.bytes.now l.start l.count)) ∙ sym c.loop-i.invariant)

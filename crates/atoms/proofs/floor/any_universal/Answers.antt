@@ -1,40 +1,24 @@
-use mathlib.Core.Path.{refl, sym, ◌∙◌}
+use Prim.Native.Nat.{ℕ}
+use mathlib.Core.Bool.{Bool}
+use mathlib.Core.Path.{refl, ◌∙◌}
 use native.Mathlib.Omega.{arith}
+use borrow.Author.Tests.{tests}
+use lib.ListN.{get_or}
+use Rattle.std.proofs.Common.{rules}
+use Rattle.std.proofs.lemmas.Iterator.{YieldsList-from_range}
+use Rattle.std.proofs.lemmas.Iterator.Search.{any_from_yields_List}
+use Rattle.deck.specs.Content.{deck_of}
 use Rattle.deck.specs.Reads.{list_of}
 use Rattle.deck.proofs.TableLaws.{list_length}
-use Rattle.atoms.proofs.ListWalks.{any-end, any_step, any-stop}
+use Rattle.atoms.specs.Floor.{universal}
+use Rattle.atoms.proofs.ListWalks.{any-places}
 use Rattle.atoms.proofs.floor.any_universal.Goals as goal
-
-pub loop-i-init : goal.loop-i-init
-loop-i-init c =
-    (omega arith, refl)
-
-pub item-requires : goal.item-requires
-item-requires c =
-    record { accepted = c.requires.accepted; within = c.requires.list_fits.within; i_lt_count = omega arith }
-
-pub is_universal_antecedent-requires : goal.is_universal_antecedent-requires
-is_universal_antecedent-requires c =
-    let l = c.args.list in
-    let o = c.requires.list_fits.below c.loop-i.i (omega (arith, list_length c.args.deck.now l.start l.count)) in record { accepted = c.requires.accepted; concept_bound = omega (arith, o, c.item.ensures) }
-
-pub returns-then-is_universal_antecedent : goal.returns-then-is_universal_antecedent
-returns-then-is_universal_antecedent c =
-    let l = c.args.list in
-    let w = c.loop-i in
-    any-stop 0 (list_of c.args.deck.now l) w.i _ (omega (arith, list_length c.args.deck.now l.start l.count)) (rw c.item.ensures at (sym c.is_universal_antecedent.ensures) ∙ c.if-is_universal_antecedent.true) ∙ sym w.invariant.1
-
-pub overflow_add-i : goal.overflow_add-i
-overflow_add-i c =
-    omega (arith, c.type_inv)
-
-pub loop-i-preserved : goal.loop-i-preserved
-loop-i-preserved c =
-    let l = c.args.list in
-    let w = c.loop-i in
-    (omega arith, w.invariant.1 ∙ any_step 0 (list_of c.args.deck.now l) w.i _ (omega (arith, list_length c.args.deck.now l.start l.count)) (rw c.item.ensures at (sym c.is_universal_antecedent.ensures) ∙ c.if-is_universal_antecedent.false))
 
 pub returns : goal.returns
 returns c =
-    let l = c.args.list in
-    any-end 0 (list_of c.args.deck.now l) c.loop-i.i _ (omega (arith, list_length c.args.deck.now l.start l.count)) ∙ sym c.loop-i.invariant.1
+    let s = c.args.deck.now.bytes.now in
+    let list = c.args.list in
+    let l = list_of s list in
+    let p = universal (deck_of s) in
+    let at : ℕ → Bool = λ i. p (get_or l i 0) in
+    any_from_yields_List at _ _ _ c.any.ensures.ran (YieldsList-from_range 0 list.count list.count refl (omega arith)) (λ x b q k. search (rules, tests)) ∙ any-places p l _ (list_length s list.start list.count)

@@ -1,4 +1,4 @@
-use mathlib.Core.Path.{refl, sym, ◌∙◌}
+use mathlib.Core.Path.{sym, ◌∙◌}
 use native.Mathlib.Omega.{arith}
 use Rattle.deck.specs.Content.{deck_of}
 use Rattle.deck.specs.Deck.{Axiom}
@@ -7,24 +7,12 @@ use Rattle.atoms.specs.Floor.{floor_label}
 use Rattle.atoms.proofs.ListWalks.{taken-end, taken_step}
 use Rattle.atoms.proofs.floor.compute_top_floor.Goals as goal
 
-pub loop-i-init : goal.loop-i-init
-loop-i-init c =
-    (omega arith, refl, refl)
-
-pub join_axiom-requires : goal.join_axiom-requires
-join_axiom-requires c =
-    record { accepted = c.requires.accepted; axiom_bound = omega (arith, c.axiom_count-count.ensures.is); label_len = c.loop-i.invariant.1 ∙ c.clear.auto.label ∙ c.requires.floor_len }
-
-pub overflow_add-i : goal.overflow_add-i
-overflow_add-i c =
-    omega (arith, c.axiom_count-count.ensures.most)
-
 pub loop-i-preserved : goal.loop-i-preserved
 loop-i-preserved c =
     let w = c.loop-i in
-    (omega arith, omega (arith, c.join_axiom.auto.label, w.invariant.1), w.invariant.2 ∙ taken_step (Axiom.DeclareClass 0) (deck_of c.args.deck.now).axioms w.i _ w.floor (omega (arith, c.axiom_count-count.ensures.is)) c.join_axiom.ensures)
+    w.invariant ∙ taken_step (Axiom.DeclareClass 0) (deck_of c.args.deck.now.bytes.now).axioms w.i _ w.floor (omega (arith, c.axiom_count-i-end.ensures.is)) c.join_axiom.ensures
 
 pub returns : goal.returns
 unfolding floor_label label_of
 returns c =
-    taken-end (Axiom.DeclareClass 0) (deck_of c.args.deck.now).axioms c.loop-i.i _ _ (omega (arith, c.axiom_count-count.ensures.is)) ∙ sym c.loop-i.invariant.2 ∙ rw (c.clear.ensures, c.requires.floor_len)
+    taken-end (Axiom.DeclareClass 0) (deck_of c.args.deck.now.bytes.now).axioms c.loop-i.i _ _ (omega (arith, c.axiom_count-i-end.ensures.is)) ∙ sym c.loop-i.invariant ∙ rw (c.clear.ensures, c.requires.floor_len)

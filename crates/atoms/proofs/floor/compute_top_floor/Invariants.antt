@@ -1,14 +1,10 @@
-use Prim.Native.Nat.{◌-◌, ◌≤◌}
 use mathlib.Core.Path.{◌≡◌}
 use mathlib.Core.List.{flat_map}
-use lib.ListN.{length, drop}
+use lib.ListN.{drop}
 use Rattle.deck.specs.Content.{deck_of}
 use Rattle.atoms.specs.Label.{insert_all}
 use Rattle.atoms.specs.Floor.{floor_of}
 use Rattle.atoms.proofs.floor.compute_top_floor.Given as goal
 
 abbrev pub invariant-loop-i : goal.invariant-loop-i
-invariant-loop-i l = (l.i ≤ l.count) × (length l.floor ≡ length l.initial.floor) × (insert_all l.initial.floor (flat_map (floor_of (deck_of l.deck)) (deck_of l.deck).axioms) ≡ insert_all l.floor (flat_map (floor_of (deck_of l.deck)) (drop l.i (deck_of l.deck).axioms)))
-
-abbrev pub decreases-loop-i : goal.decreases-loop-i
-decreases-loop-i l = l.count - l.i
+invariant-loop-i l = insert_all l.initial.floor (flat_map (floor_of (deck_of l.deck.bytes.now)) (deck_of l.deck.bytes.now).axioms) ≡ insert_all l.floor (flat_map (floor_of (deck_of l.deck.bytes.now)) (drop l.i (deck_of l.deck.bytes.now).axioms))

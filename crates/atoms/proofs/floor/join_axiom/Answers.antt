@@ -1,16 +1,8 @@
 use mathlib.Core.Path.{ap}
 use Rattle.atoms.specs.Label.{insert_all}
 use Rattle.deck.proofs.MatchLaws.{at_least}
-use Rattle.atoms.proofs.FloorLaws.{axiom-fits, floor-sub-class, floor-equivalent, floor-other}
+use Rattle.atoms.proofs.FloorLaws.{floor-sub-class, floor-equivalent, floor-other}
 use Rattle.atoms.proofs.floor.join_axiom.Goals as goal
-
-pub join_sub_class-requires : goal.join_sub_class-requires
-join_sub_class-requires c =
-    let f = axiom-fits _ _ c.axiom_at-record.ensures 0 c.in-0.is in record { accepted = c.requires.accepted; sub_bound = f.0; sup_bound = f.1.0; label_len = c.requires.label_len }
-
-pub join_equivalent-requires : goal.join_equivalent-requires
-join_equivalent-requires c =
-    let f = axiom-fits _ _ c.axiom_at-record.ensures 1 c.in-1.is in record { accepted = c.requires.accepted; list_fits = f.0; label_len = c.requires.label_len }
 
 pub returns-in-0 : goal.returns-in-0
 returns-in-0 c =

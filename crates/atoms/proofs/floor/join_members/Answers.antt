@@ -1,34 +1,17 @@
-use mathlib.Core.Path.{refl, sym, ◌∙◌}
+use mathlib.Core.Path.{sym, ◌∙◌}
 use native.Mathlib.Omega.{arith}
 use Rattle.deck.specs.Reads.{list_of}
 use Rattle.deck.proofs.TableLaws.{list_length}
 use Rattle.atoms.proofs.ListWalks.{taken-end, taken_step}
 use Rattle.atoms.proofs.floor.join_members.Goals as goal
 
-pub loop-i-init : goal.loop-i-init
-loop-i-init c =
-    (omega arith, refl, refl)
-
-pub item-requires : goal.item-requires
-item-requires c =
-    record { accepted = c.requires.accepted; within = c.requires.list_fits.within; i_lt_count = omega arith }
-
-pub join_member-requires : goal.join_member-requires
-join_member-requires c =
-    let l = c.args.list in
-    let o = c.requires.list_fits.below c.loop-i.i (omega (arith, list_length c.args.deck.now l.start l.count)) in record { accepted = c.requires.accepted; member_bound = omega (arith, o, c.item.ensures); label_len = c.loop-i.invariant.1 ∙ c.requires.label_len }
-
-pub overflow_add-i : goal.overflow_add-i
-overflow_add-i c =
-    omega (arith, c.type_inv)
-
 pub loop-i-preserved : goal.loop-i-preserved
 loop-i-preserved c =
     let l = c.args.list in
     let w = c.loop-i in
-    (omega arith, omega (arith, c.join_member.auto.label, w.invariant.1), w.invariant.2 ∙ taken_step 0 (list_of c.args.deck.now l) w.i _ w.label (omega (arith, list_length c.args.deck.now l.start l.count)) (rw c.item.ensures at c.join_member.ensures))
+    w.invariant ∙ taken_step 0 (list_of c.args.deck.now.bytes.now l) w.i _ w.label (omega (arith, list_length c.args.deck.now.bytes.now l.start l.count)) (rw c.member.ensures.is at c.join_member.ensures)
 
 pub returns : goal.returns
 returns c =
     let l = c.args.list in
-    taken-end 0 (list_of c.args.deck.now l) c.loop-i.i _ _ (omega (arith, list_length c.args.deck.now l.start l.count)) ∙ sym c.loop-i.invariant.2
+    taken-end 0 (list_of c.args.deck.now.bytes.now l) c.loop-i.i _ _ (omega (arith, list_length c.args.deck.now.bytes.now l.start l.count)) ∙ sym c.loop-i.invariant

@@ -1,25 +1,12 @@
-use Rattle.deck.specs.Content.{deck_of}
-use mathlib.Core.Path.{subst}
-use Rattle.atoms.specs.Target.{TargetFits}
-use Rattle.atoms.proofs.LargeLaws.{took-row, took-delta, took-open}
+use mathlib.Core.Bool.{Bool, ◌||◌}
+use mathlib.Core.Path.{ap, ◌∙◌}
+use Rattle.atoms.specs.Body.{open_by}
+use Rattle.atoms.specs.Large.{delta_from}
+use Rattle.atoms.proofs.LargeLaws.{took-one}
 use Rattle.atoms.proofs.large.join_by.Goals as goal
 
-pub insert_subsumers-requires : goal.insert_subsumers-requires
-insert_subsumers-requires c =
-    record { accepted = c.requires.accepted; class_bound = subst (TargetFits (deck_of c.args.deck.now)) c.in-Row.is c.target_label-by.ensures.target_fits; label_len = c.requires.label_len }
-
-pub insert_subsumers-requires-in-Delta : goal.insert_subsumers-requires-in-Delta
-insert_subsumers-requires-in-Delta c =
-    record { accepted = c.requires.accepted; class_bound = subst (TargetFits (deck_of c.args.deck.now)) c.in-Delta.is c.target_label-by.ensures.target_fits; label_len = c.requires.label_len }
-
-pub returns-in-Row : goal.returns-in-Row
-returns-in-Row c =
-    took-row _ _ _ c.target_label-by.ensures.value _ _ _ c.in-Row.is c.insert_subsumers.ensures
-
-pub returns-in-Delta : goal.returns-in-Delta
-returns-in-Delta c =
-    took-delta _ _ _ c.target_label-by.ensures.value _ _ _ c.in-Delta.is c.insert_subsumers-in-Delta.ensures
-
-pub returns-in-NotClosed : goal.returns-in-NotClosed
-returns-in-NotClosed c =
-    took-open _ _ _ c.target_label-by.ensures.value _ _ c.in-NotClosed.is c.insert_subsumers-in-NotClosed.ensures
+pub returns : goal.returns
+returns c =
+    let z = c.args.seen in
+    let t = c.join_target-target.ensures.value in
+    took-one _ _ c.args.a.0 _ z c.join_target-target.ensures.taken (ap (λ (b : Bool). z.unclosed || b) (c.is_open.ensures ∙ ap open_by t)) (ap (λ (b : Bool). z.delta || b) (c.is_delta.ensures ∙ ap delta_from t))

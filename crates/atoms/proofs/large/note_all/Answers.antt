@@ -9,7 +9,7 @@ use Rattle.atoms.proofs.large.note_all.Goals as goal
 
 pub note_counted-total-requires : goal.note_counted-total-requires
 note_counted-total-requires c =
-    record { accepted = c.requires.accepted; r_bound = c.requires.r_bound; concept_bound = c.requires.concept_bound; delta_value = c.requires.seen_of.delta; concept_in_bounds = omega (arith, c.requires.concept_bound, (limited _ c.requires.accepted).concepts, length-replicate {A = ℕ} 16384 0) }
+    record { r_bound = c.requires.r_bound; concept_bound = c.requires.concept_bound; delta_value = c.requires.seen_of.delta; concept_in_bounds = omega (arith, c.requires.concept_bound, (limited _ c.args.deck.now.accepted).concepts, length-replicate {A = ℕ} 16384 0) }
 
 pub returns-then-not-seen : goal.returns-then-not-seen
 returns-then-not-seen c =
@@ -17,7 +17,7 @@ returns-then-not-seen c =
 
 pub note_open-requires : goal.note_open-requires
 note_open-requires c =
-    record { accepted = c.requires.accepted; concept_bound = c.requires.concept_bound; concept_value = sym c.requires.seen_of.found ∙ c.requires.found_value; concept_in_bounds = omega (arith, c.note_counted-total.auto.table, length-replicate {A = ℕ} 16384 0, c.requires.concept_bound, (limited _ c.requires.accepted).concepts) }
+    record { concept_bound = c.requires.concept_bound; concept_value = sym c.requires.seen_of.found ∙ c.requires.found_value; concept_in_bounds = omega (arith, c.note_counted-total.auto.table, length-replicate {A = ℕ} 16384 0, c.requires.concept_bound, (limited _ c.args.deck.now.accepted).concepts) }
 
 pub returns : goal.returns
 returns c =

@@ -9,8 +9,4 @@ returns-then-not-delta c =
 
 pub overflow_add-concept : goal.overflow_add-concept
 overflow_add-concept c =
-    omega (arith, c.requires.concept_bound, (limited _ c.requires.accepted).concepts)
-
-pub note_deltas-requires : goal.note_deltas-requires
-note_deltas-requires c =
-    record { accepted = c.requires.accepted; concept_bound = c.requires.concept_bound; concept_in_bounds = omega (arith, c.fill_deltas.auto.table, c.requires.concept_in_bounds); deltas_to = c.fill_deltas.ensures }
+    omega (arith, c.requires.concept_bound, (limited _ c.args.deck.now.accepted).concepts)

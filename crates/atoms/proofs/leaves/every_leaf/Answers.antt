@@ -1,17 +1,12 @@
 use borrow.Enum.Refused.{opened}
 use mathlib.Core.Path.{◌∙◌}
-use Rattle.atoms.proofs.FloorLaws.{fits_read}
 use Rattle.atoms.proofs.LeafLaws.{every-leaf-and, every-leaf-other}
 use Rattle.atoms.proofs.leaves.every_leaf.Goals as goal
 
-pub operands_answer-requires : goal.operands_answer-requires
-operands_answer-requires c =
-    record { accepted = c.requires.accepted; askable = c.requires.askable; owner_bound = c.requires.concept_bound; list_fits = fits_read _ c.requires.accepted c.args.concept.0 c.concept_at-expr.ensures _ c.in-And.is }
-
 pub returns-in-And : goal.returns-in-And
 returns-in-And c =
-    c.operands_answer.ensures ∙ every-leaf-and _ c.requires.accepted c.args.concept.0 c.concept_at-expr.ensures _ _ _ c.in-And.is
+    c.operands_answer.ensures ∙ every-leaf-and _ c.args.deck.now.accepted c.args.concept.0 c.concept_at-expr.ensures _ _ c.in-And.is
 
 pub returns-in_default : goal.returns-in_default
 returns-in_default c =
-    c.leaf_answer.ensures ∙ every-leaf-other _ c.requires.accepted c.args.concept.0 c.concept_at-expr.ensures _ _ (opened c.in_default.in_default-own.keys2)
+    c.leaf_answer.ensures ∙ every-leaf-other _ c.args.deck.now.accepted c.args.concept.0 c.concept_at-expr.ensures _ (opened c.in_default.in_default-own.keys2)

@@ -10,4 +10,4 @@ returns-in-And c =
 
 pub returns-in_default : goal.returns-in_default
 returns-in_default c =
-    let R = c.concept_at-expr.ensures in record { leaf = (λ e. is-leaf-read _ c.requires.accepted c.args.concept.0 R (opened c.in_default.in_default-own.keys2)); alone = (λ e. sym (leaves-other _ c.requires.accepted c.args.concept.0 R (opened c.in_default.in_default-own.keys2))) }
+    let R = c.concept_at-expr.ensures in record { leaf = (λ e. is-leaf-read _ c.args.deck.now.accepted c.args.concept.0 R (opened c.in_default.in_default-own.keys2)); alone = (λ e. sym (leaves-other _ c.args.deck.now.accepted c.args.concept.0 R (opened c.in_default.in_default-own.keys2))) }

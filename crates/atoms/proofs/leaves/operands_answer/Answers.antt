@@ -1,4 +1,4 @@
-use mathlib.Core.Path.{refl, sym, ◌∙◌}
+use mathlib.Core.Path.{sym, ◌∙◌}
 use native.Mathlib.Omega.{arith}
 use Rattle.deck.specs.Reads.{list_of}
 use Rattle.deck.proofs.TableLaws.{list_length}
@@ -6,46 +6,22 @@ use Rattle.atoms.proofs.ListWalks.{every-end, every-step, every-stop}
 use Rattle.atoms.proofs.LeafLaws.{every-leaf-one}
 use Rattle.atoms.proofs.leaves.operands_answer.Goals as goal
 
-pub loop-i-init : goal.loop-i-init
-loop-i-init c =
-    (omega arith, refl)
-
-pub item-requires : goal.item-requires
-item-requires c =
-    record { accepted = c.requires.accepted; within = c.requires.list_fits.within; i_lt_count = omega arith }
-
-pub is_and-requires : goal.is_and-requires
-is_and-requires c =
-    let o = c.requires.list_fits.below c.loop-i.i (omega (arith, list_length c.args.deck.now c.args.list.start c.args.list.count)) in record { accepted = c.requires.accepted; concept_bound = omega (arith, o, c.requires.owner_bound, c.item.ensures) }
-
-pub rest_answer-requires : goal.rest_answer-requires
-rest_answer-requires c =
-    record { accepted = c.requires.accepted; askable = c.requires.askable; owner_bound = c.requires.owner_bound; list_fits = c.requires.list_fits }
-
 pub returns-then-is_and : goal.returns-then-is_and
 returns-then-is_and c =
-    c.rest_answer.ensures ∙ sym c.loop-i.invariant.1
-
-pub leaf_answer-requires : goal.leaf_answer-requires
-leaf_answer-requires c =
-    let o = c.requires.list_fits.below c.loop-i.i (omega (arith, list_length c.args.deck.now c.args.list.start c.args.list.count)) in record { accepted = c.requires.accepted; askable = c.requires.askable; concept_bound = omega (arith, o, c.requires.owner_bound, c.item.ensures) }
+    c.rest_answer.ensures ∙ sym c.loop-i.invariant
 
 pub returns-then-not-leaf_answer : goal.returns-then-not-leaf_answer
 returns-then-not-leaf_answer c =
     let w = c.loop-i in
-    let a = every-leaf-one _ _ _ c.item.result (c.is_and.ensures.alone c.if-is_and.false) in
-    every-stop 0 (list_of c.args.deck.now c.args.list) w.i _ (omega (arith, list_length c.args.deck.now c.args.list.start c.args.list.count)) (rw c.item.ensures at (sym a ∙ sym c.leaf_answer.ensures ∙ c.if-not-leaf_answer.true)) ∙ sym w.invariant.1
-
-pub overflow_add-i : goal.overflow_add-i
-overflow_add-i c =
-    omega (arith, c.type_inv)
+    let a = every-leaf-one _ _ c.operand-o.result.0 (c.is_and.ensures.alone c.if-is_and.false) in
+    every-stop 0 (list_of c.args.deck.now.bytes.now c.args.list) w.i _ (omega (arith, list_length c.args.deck.now.bytes.now c.args.list.start c.args.list.count)) (rw c.operand-o.ensures.is at (sym a ∙ sym c.leaf_answer.ensures ∙ c.if-not-leaf_answer.true)) ∙ sym w.invariant
 
 pub loop-i-preserved : goal.loop-i-preserved
 loop-i-preserved c =
     let w = c.loop-i in
-    let a = every-leaf-one _ _ _ c.item.result (c.is_and.ensures.alone c.if-is_and.false) in
-    (omega arith, w.invariant.1 ∙ every-step 0 (list_of c.args.deck.now c.args.list) w.i _ (omega (arith, list_length c.args.deck.now c.args.list.start c.args.list.count)) (rw c.item.ensures at (sym a ∙ sym c.leaf_answer.ensures ∙ c.if-not-leaf_answer.false)))
+    let a = every-leaf-one _ _ c.operand-o.result.0 (c.is_and.ensures.alone c.if-is_and.false) in
+    w.invariant ∙ every-step 0 (list_of c.args.deck.now.bytes.now c.args.list) w.i _ (omega (arith, list_length c.args.deck.now.bytes.now c.args.list.start c.args.list.count)) (rw c.operand-o.ensures.is at (sym a ∙ sym c.leaf_answer.ensures ∙ c.if-not-leaf_answer.false))
 
 pub returns : goal.returns
 returns c =
-    every-end 0 (list_of c.args.deck.now c.args.list) c.loop-i.i _ (omega (arith, list_length c.args.deck.now c.args.list.start c.args.list.count)) ∙ sym c.loop-i.invariant.1
+    every-end 0 (list_of c.args.deck.now.bytes.now c.args.list) c.loop-i.i _ (omega (arith, list_length c.args.deck.now.bytes.now c.args.list.start c.args.list.count)) ∙ sym c.loop-i.invariant

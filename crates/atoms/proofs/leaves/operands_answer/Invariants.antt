@@ -1,16 +1,12 @@
-use Prim.Native.Nat.{◌-◌, ◌≤◌}
 use mathlib.Core.Path.{◌≡◌}
 use mathlib.Core.List.{map}
 use lib.ListN.{drop}
 use Rattle.deck.specs.Content.{deck_of}
 use Rattle.deck.specs.Reads.{list_of}
 use Rattle.eval.specs.Lists.{every}
-use Rattle.atoms.specs.Leaves.{every_leaf, row_asked}
+use Rattle.atoms.specs.Leaves.{every_leaf}
 use Rattle.atoms.proofs.leaves.operands_answer.Given as goal
 
 abbrev pub invariant-loop-i : goal.invariant-loop-i
-invariant-loop-i l = let p = every_leaf (deck_of l.deck) l.question (row_asked (deck_of l.deck) l.labels l.elements l.question) in
-    (l.i ≤ l.count) × (every (map p (list_of l.deck l.list)) ≡ every (map p (drop l.i (list_of l.deck l.list))))
-
-abbrev pub decreases-loop-i : goal.decreases-loop-i
-decreases-loop-i l = l.count - l.i
+invariant-loop-i l = let p = every_leaf (deck_of l.deck.bytes.now) l.question in
+    every (map p (list_of l.deck.bytes.now l.list)) ≡ every (map p (drop l.i (list_of l.deck.bytes.now l.list)))

@@ -1,24 +1,12 @@
-use mathlib.Core.Path.{refl, sym, ◌∙◌}
+use mathlib.Core.Path.{sym, ◌∙◌}
 use native.Mathlib.Omega.{arith}
 use Rattle.atoms.proofs.LeafLaws.{mark-none, mark-skip, mark-here, mark-skip-word}
 use Rattle.atoms.proofs.marks.highest_mark.Goals as goal
-
-pub loop-k-init : goal.loop-k-init
-loop-k-init c =
-    (omega arith, refl)
-
-pub bounds-marks-k : goal.bounds-marks-k
-bounds-marks-k c =
-    omega (arith, c.loop-k.invariant.0, c.requires.i_in_bounds)
 
 pub loop-k-preserved-then-marks-k-eq0 : goal.loop-k-preserved-then-marks-k-eq0
 loop-k-preserved-then-marks-k-eq0 c =
     let w = c.loop-k in
     (omega (arith, w.invariant.0), w.invariant.1 ∙ mark-skip-word _ w.k (omega arith) c.if-k-eq0.true c.if-marks-k-eq0.true)
-
-pub has_bit-requires : goal.has_bit-requires
-has_bit-requires c =
-    omega (arith, c.loop-k.invariant.0, c.requires.i_in_bounds)
 
 pub returns-then-has_bit : goal.returns-then-has_bit
 returns-then-has_bit c =

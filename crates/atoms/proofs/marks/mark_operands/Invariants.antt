@@ -1,12 +1,8 @@
-use Prim.Native.Nat.{◌-◌}
 use mathlib.Core.Path.{◌≡◌}
-use lib.ListN.{length, drop}
+use lib.ListN.{drop}
 use Rattle.deck.specs.Reads.{list_of}
 use Rattle.atoms.specs.Label.{insert_all}
 use Rattle.atoms.proofs.marks.mark_operands.Given as goal
 
 abbrev pub invariant-loop-i : goal.invariant-loop-i
-invariant-loop-i l = (length l.marks ≡ length l.initial.marks) × (insert_all l.initial.marks (drop l.first (list_of l.deck l.list)) ≡ insert_all l.marks (drop l.i (list_of l.deck l.list)))
-
-abbrev pub decreases-loop-i : goal.decreases-loop-i
-decreases-loop-i l = l.count - l.i
+invariant-loop-i l = insert_all l.initial.marks (drop l.first (list_of l.deck.bytes.now l.list)) ≡ insert_all l.marks (drop l.i (list_of l.deck.bytes.now l.list))

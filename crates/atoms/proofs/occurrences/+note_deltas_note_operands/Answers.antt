@@ -1,75 +1,41 @@
 use borrow.Enum.Refused.{opened}
-use mathlib.Core.Path.{refl, sym, ◌∙◌}
+use mathlib.Core.Path.{sym, ◌∙◌}
 use native.Mathlib.Omega.{arith}
 use Rattle.deck.specs.Content.{deck_of}
 use Rattle.deck.specs.Reads.{list_of}
 use Rattle.deck.proofs.TableLaws.{list_length}
 use Rattle.atoms.proofs.WalkLaws.{walk_end, walk_step}
-use Rattle.atoms.proofs.FloorLaws.{fits_read}
 use Rattle.atoms.proofs.OccurrenceLaws.{noted-none, noted-full, noted-atomic, noted-and, noted_other}
-use Prim.Native.Nat.{ℕ, ◌+◌, ◌<◌}
 use Rattle.atoms.proofs.occurrences.+note_deltas_note_operands.Goals as goal
-
-pub note_deltas-bounds-table-k : goal.note_deltas-bounds-table-k
-note_deltas-bounds-table-k t c =
-    omega (arith, c.requires.concept_in_bounds)
 
 pub note_deltas-returns-then-known-eq0 : goal.note_deltas-returns-then-known-eq0
 note_deltas-returns-then-known-eq0 t c =
-    noted-none (deck_of c.args.deck.now) c.args.r.0 c.args.concept.0 _ _ (c.requires.deltas_to c.args.concept.0 (omega arith)) c.if-known-eq0.true
+    noted-none (deck_of c.args.deck.now.bytes.now) c.args.r.0 c.args.concept.0 _ _ (c.requires.deltas_to c.args.concept.0 (omega arith)) c.if-known-eq0.true
 
 pub note_deltas-returns-then-not-has_room : goal.note_deltas-returns-then-not-has_room
 note_deltas-returns-then-not-has_room t c =
-    noted-full (deck_of c.args.deck.now) c.args.r.0 c.args.concept.0 _ c.args.total (c.requires.deltas_to c.args.concept.0 (omega arith)) (omega (arith, c.type_inv)) (sym c.has_room.ensures ∙ c.if-not-has_room.true) c.add_capped.ensures
-
-pub note_deltas-concept_at-expr-requires : goal.note_deltas-concept_at-expr-requires
-note_deltas-concept_at-expr-requires t c =
-    record { accepted = c.requires.accepted; concept_bound = c.requires.concept_bound }
-
-pub note_deltas-note_operands-requires : goal.note_deltas-note_operands-requires
-note_deltas-note_operands-requires t c =
-    let f = fits_read _ c.requires.accepted c.args.concept.0 c.concept_at-expr.ensures _ c.in-And.is in
-    (omega (arith), (c.requires.accepted, (c.requires.concept_bound, (f, (omega (arith, c.requires.concept_in_bounds), λ (k : ℕ) (b : k < c.args.concept.0). c.requires.deltas_to k (omega (arith, b)))))))
+    noted-full (deck_of c.args.deck.now.bytes.now) c.args.r.0 c.args.concept.0 _ c.args.total (c.requires.deltas_to c.args.concept.0 (omega arith)) (omega (arith, c.type_inv)) (sym c.has_room.ensures ∙ c.if-not-has_room.true) c.saturating_add.ensures
 
 pub note_deltas-returns-in-Atomic : goal.note_deltas-returns-in-Atomic
 note_deltas-returns-in-Atomic t c =
     let x = c.requires.deltas_to c.args.concept.0 (omega arith) in
-    noted-atomic _ c.requires.accepted c.args.concept.0 c.concept_at-expr.ensures c.args.r.0 _ _ _ c.in-Atomic.is (λ e. c.if-known-eq0.false (x ∙ e)) (rw c.run_delta.ensures at c.note.ensures.0) c.note.ensures.1
+    noted-atomic _ c.args.deck.now.accepted c.args.concept.0 c.concept_at-expr.ensures c.args.r.0 _ _ _ c.in-Atomic.is (λ e. c.if-known-eq0.false (x ∙ e)) c.note.ensures.0 c.note.ensures.1
 
 pub note_deltas-returns-in-And : goal.note_deltas-returns-in-And
 note_deltas-returns-in-And t c =
-    c.note_operands.ensures ∙ noted-and _ c.requires.accepted c.args.concept.0 c.concept_at-expr.ensures _ _ _ _ c.in-And.is
+    c.note_operands.ensures ∙ noted-and _ c.args.deck.now.accepted c.args.concept.0 c.concept_at-expr.ensures _ _ _ _ c.in-And.is
 
 pub note_deltas-returns-in_default : goal.note_deltas-returns-in_default
 note_deltas-returns-in_default t c =
-    noted_other _ c.requires.accepted c.args.concept.0 c.concept_at-expr.ensures _ _ _ (opened c.in_default.in_default-own.keys3)
-
-pub note_operands-loop-i-init : goal.note_operands-loop-i-init
-note_operands-loop-i-init t c =
-    (omega arith, refl, refl)
-
-pub note_operands-item-requires : goal.note_operands-item-requires
-note_operands-item-requires t c =
-    record { accepted = c.requires.accepted; within = c.requires.list_fits.within; i_lt_count = omega arith }
-
-pub note_operands-note_deltas-next-requires : goal.note_operands-note_deltas-next-requires
-note_operands-note_deltas-next-requires t c =
-    let l = c.args.list in
-    let o = c.requires.list_fits.below c.loop-i.i (omega (arith, list_length c.args.deck.now l.start l.count)) in
-    let q = c.item.ensures in
-    (omega (arith, o, q), (c.requires.accepted, (omega (arith, o, c.requires.owner_bound, q), (omega (arith, o, q, c.requires.owner_in_bounds), λ (k : ℕ) (b : k < c.item.result + 1). c.requires.deltas_to k (omega (arith, b, o, q))))))
-
-pub note_operands-overflow_add-i : goal.note_operands-overflow_add-i
-note_operands-overflow_add-i t c =
-    omega (arith, c.type_inv)
+    noted_other _ c.args.deck.now.accepted c.args.concept.0 c.concept_at-expr.ensures _ _ _ (opened c.in_default.in_default-own.keys3)
 
 pub note_operands-loop-i-preserved : goal.note_operands-loop-i-preserved
 note_operands-loop-i-preserved t c =
     let l = c.args.list in
     let w = c.loop-i in
-    (omega arith, omega (arith, c.note_deltas-next.auto.log, w.invariant.1), w.invariant.2 ∙ walk_step 0 _ (list_of c.args.deck.now l) w.i _ (omega (arith, list_length c.args.deck.now l.start l.count)) (rw c.item.ensures at c.note_deltas-next.ensures))
+    w.invariant ∙ walk_step 0 _ (list_of c.args.deck.now.bytes.now l) w.i _ (omega (arith, list_length c.args.deck.now.bytes.now l.start l.count)) (rw c.operand.ensures.is at c.note_deltas-held.ensures)
 
 pub note_operands-returns : goal.note_operands-returns
 note_operands-returns t c =
     let l = c.args.list in
-    walk_end 0 _ (list_of c.args.deck.now l) c.loop-i.i _ (omega (arith, list_length c.args.deck.now l.start l.count)) ∙ sym c.loop-i.invariant.2
+    walk_end 0 _ (list_of c.args.deck.now.bytes.now l) c.loop-i.i _ (omega (arith, list_length c.args.deck.now.bytes.now l.start l.count)) ∙ sym c.loop-i.invariant

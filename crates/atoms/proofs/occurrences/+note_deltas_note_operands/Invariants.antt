@@ -1,10 +1,10 @@
 use mathlib.Core.Path.{◌≡◌}
-use lib.ListN.{length, drop}
+use lib.ListN.{drop}
 use Rattle.deck.specs.Content.{deck_of}
 use Rattle.deck.specs.Reads.{list_of}
 use Rattle.atoms.specs.Walk.{walk}
 use Rattle.atoms.specs.Occurrences.{logs, noted_deltas}
-use Prim.Native.Nat.{◌+◌, ◌*◌, ◌-◌, ◌≤◌}
+use Prim.Native.Nat.{◌+◌, ◌*◌}
 use Rattle.atoms.proofs.occurrences.+note_deltas_note_operands.Given as goal
 
 abbrev pub decreases-note_deltas : goal.decreases-note_deltas
@@ -14,7 +14,4 @@ abbrev pub decreases-note_operands : goal.decreases-note_operands
 decreases-note_operands l = l.owner.0 * 2
 
 abbrev pub invariant-note_operands-loop-i : goal.invariant-note_operands-loop-i
-invariant-note_operands-loop-i l = (l.i ≤ l.count) × (length l.log ≡ length l.initial.log) × (walk (noted_deltas (deck_of l.deck) l.r.0) (list_of l.deck l.list) (logs l.initial.log l.total) ≡ walk (noted_deltas (deck_of l.deck) l.r.0) (drop l.i (list_of l.deck l.list)) (logs l.log l.held))
-
-abbrev pub decreases-note_operands-loop-i : goal.decreases-note_operands-loop-i
-decreases-note_operands-loop-i l = l.count - l.i
+invariant-note_operands-loop-i l = walk (noted_deltas (deck_of l.deck.bytes.now) l.r.0) (list_of l.deck.bytes.now l.list) (logs l.initial.log l.total) ≡ walk (noted_deltas (deck_of l.deck.bytes.now) l.r.0) (drop l.i (list_of l.deck.bytes.now l.list)) (logs l.log l.held)

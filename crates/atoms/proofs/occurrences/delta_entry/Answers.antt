@@ -4,23 +4,15 @@ use Rattle.atoms.proofs.FloorLaws.{fits_read}
 use Rattle.atoms.proofs.OccurrenceLaws.{count-atomic, count-and, count-other}
 use Rattle.atoms.proofs.occurrences.delta_entry.Goals as goal
 
-pub atom_count-requires : goal.atom_count-requires
-atom_count-requires c =
-    record { accepted = c.requires.accepted; r_bound = c.requires.r_bound; a_bound = fits_read _ c.requires.accepted c.args.concept.0 c.concept_at-expr.ensures _ c.in-Atomic.is }
-
-pub sum_entries-requires : goal.sum_entries-requires
-sum_entries-requires c =
-    record { accepted = c.requires.accepted; list_fits = fits_read _ c.requires.accepted c.args.concept.0 c.concept_at-expr.ensures _ c.in-And.is; owner_in_bounds = c.requires.concept_in_bounds }
-
 pub returns-in-Atomic : goal.returns-in-Atomic
 returns-in-Atomic c =
-    c.atom_count.ensures ∙ count-atomic _ c.requires.accepted c.args.concept.0 c.concept_at-expr.ensures _ _ c.in-Atomic.is
+    c.atom_count.ensures ∙ count-atomic _ c.args.deck.now.accepted c.args.concept.0 c.concept_at-expr.ensures _ _ c.in-Atomic.is
 
 pub returns-in-And : goal.returns-in-And
 returns-in-And c =
-    let f = fits_read _ c.requires.accepted c.args.concept.0 c.concept_at-expr.ensures _ c.in-And.is in
-    c.sum_entries.ensures ∙ count-and _ c.requires.accepted c.args.concept.0 c.concept_at-expr.ensures _ _ c.in-And.is f c.args.table.now c.requires.deltas_to
+    let f = fits_read _ c.args.deck.now.accepted c.args.concept.0 c.concept_at-expr.ensures _ c.in-And.is in
+    c.sum_entries.ensures ∙ count-and _ c.args.deck.now.accepted c.args.concept.0 c.concept_at-expr.ensures _ _ c.in-And.is f c.args.table.now c.requires.deltas_to
 
 pub returns-in_default : goal.returns-in_default
 returns-in_default c =
-    count-other _ c.requires.accepted c.args.concept.0 c.concept_at-expr.ensures _ (opened c.in_default.in_default-own.keys3)
+    count-other _ c.args.deck.now.accepted c.args.concept.0 c.concept_at-expr.ensures _ (opened c.in_default.in_default-own.keys3)

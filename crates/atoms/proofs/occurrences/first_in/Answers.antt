@@ -1,5 +1,5 @@
 use Prim.Native.Nat.{ℕ, ◌<◌}
-use mathlib.Core.Path.{refl, sym, subst, ◌∙◌}
+use mathlib.Core.Path.{sym, subst, ◌∙◌}
 use mathlib.Core.List.{List}
 use native.Mathlib.Omega.{arith}
 use lib.ListN.{length, get_or}
@@ -11,45 +11,27 @@ use Rattle.atoms.specs.Occurrences.{IsFirst}
 use Rattle.atoms.proofs.OccurrenceLaws.{first-at, first-end, first_step, first-stop}
 use Rattle.atoms.proofs.occurrences.first_in.Goals as goal
 
-pub loop-i-init : goal.loop-i-init
-loop-i-init c =
-    (omega arith, refl)
-
-pub item-o-requires : goal.item-o-requires
-item-o-requires c =
-    record { accepted = c.requires.accepted; within = c.requires.list_fits.within; i_lt_count = omega arith }
-
-pub bounds-table-o : goal.bounds-table-o
-bounds-table-o c =
-    let l = c.args.list in
-    let o = c.requires.list_fits.below c.loop-i.i (omega (arith, list_length c.args.deck.now l.start l.count)) in
-    omega (arith, o, c.item-o.ensures, c.requires.owner_in_bounds)
-
 pub returns-then-x : goal.returns-then-x
 returns-then-x c =
-    let s = c.args.deck.now in
+    let s = c.args.deck.now.bytes.now in
     let l = c.args.list in
     let w = c.loop-i in
     let h : w.i < length (list_of s l) = omega (arith, list_length s l.start l.count) in
-    let F = first-at (deck_of s) c.args.table.now c.args.owner.0 c.requires.firsts_to (list_of s l) c.requires.list_fits.below w.i h _ c.item-o.ensures in
-    subst (λ (ks : List ℕ). IsFirst ks (get_or c.args.table.now c.item-o.result 0)) (sym w.invariant.1) (first-stop (required_atoms (deck_of s)) (list_of s l) w.i h F c.if-x.true)
-
-pub overflow_add-i : goal.overflow_add-i
-overflow_add-i c =
-    omega (arith, c.type_inv)
+    let F = first-at (deck_of s) c.args.table.now c.args.owner.0 c.requires.firsts_to (list_of s l) c.requires.list_fits.below w.i h _ c.operand-o.ensures.is in
+    subst (λ (ks : List ℕ). IsFirst ks (get_or c.args.table.now c.operand-o.result.0 0)) (sym w.invariant) (first-stop (required_atoms (deck_of s)) (list_of s l) w.i h F c.if-x.true)
 
 pub loop-i-preserved : goal.loop-i-preserved
 loop-i-preserved c =
-    let s = c.args.deck.now in
+    let s = c.args.deck.now.bytes.now in
     let l = c.args.list in
     let w = c.loop-i in
     let h : w.i < length (list_of s l) = omega (arith, list_length s l.start l.count) in
-    let F = first-at (deck_of s) c.args.table.now c.args.owner.0 c.requires.firsts_to (list_of s l) c.requires.list_fits.below w.i h _ c.item-o.ensures in
-    (omega arith, w.invariant.1 ∙ first_step (required_atoms (deck_of s)) (list_of s l) w.i h F c.if-x.false)
+    let F = first-at (deck_of s) c.args.table.now c.args.owner.0 c.requires.firsts_to (list_of s l) c.requires.list_fits.below w.i h _ c.operand-o.ensures.is in
+    w.invariant ∙ first_step (required_atoms (deck_of s)) (list_of s l) w.i h F c.if-x.false
 
 pub returns : goal.returns
 returns c =
-    let s = c.args.deck.now in
+    let s = c.args.deck.now.bytes.now in
     let l = c.args.list in
     let w = c.loop-i in
-    subst (λ (ks : List ℕ). IsFirst ks 4294967295) (sym w.invariant.1) (first-end (required_atoms (deck_of s)) (list_of s l) w.i (omega (arith, list_length s l.start l.count)))
+    subst (λ (ks : List ℕ). IsFirst ks 4294967295) (sym w.invariant) (first-end (required_atoms (deck_of s)) (list_of s l) w.i (omega (arith, list_length s l.start l.count)))

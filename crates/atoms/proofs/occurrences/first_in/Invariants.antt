@@ -1,4 +1,3 @@
-use Prim.Native.Nat.{◌-◌, ◌≤◌}
 use mathlib.Core.Path.{◌≡◌}
 use mathlib.Core.List.{flat_map}
 use lib.ListN.{drop}
@@ -8,7 +7,4 @@ use Rattle.atoms.specs.Floor.{required_atoms}
 use Rattle.atoms.proofs.occurrences.first_in.Given as goal
 
 abbrev pub invariant-loop-i : goal.invariant-loop-i
-invariant-loop-i l = (l.i ≤ l.count) × (flat_map (required_atoms (deck_of l.deck)) (list_of l.deck l.list) ≡ flat_map (required_atoms (deck_of l.deck)) (drop l.i (list_of l.deck l.list)))
-
-abbrev pub decreases-loop-i : goal.decreases-loop-i
-decreases-loop-i l = l.count - l.i
+invariant-loop-i l = flat_map (required_atoms (deck_of l.deck.bytes.now)) (list_of l.deck.bytes.now l.list) ≡ flat_map (required_atoms (deck_of l.deck.bytes.now)) (drop l.i (list_of l.deck.bytes.now l.list))

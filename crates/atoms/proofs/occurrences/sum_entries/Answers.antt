@@ -6,32 +6,14 @@ use Rattle.atoms.specs.Occurrences.{entry_at}
 use Rattle.atoms.proofs.OccurrenceLaws.{sum-end, sum_step}
 use Rattle.atoms.proofs.occurrences.sum_entries.Goals as goal
 
-pub loop-i-init : goal.loop-i-init
-loop-i-init c =
-    (omega arith, omega arith, omega arith)
-
-pub item-o-requires : goal.item-o-requires
-item-o-requires c =
-    record { accepted = c.requires.accepted; within = c.requires.list_fits.within; i_lt_count = omega arith }
-
-pub bounds-table-o : goal.bounds-table-o
-bounds-table-o c =
-    let l = c.args.list in
-    let o = c.requires.list_fits.below c.loop-i.i (omega (arith, list_length c.args.deck.now l.start l.count)) in
-    omega (arith, o, c.item-o.ensures, c.requires.owner_in_bounds)
-
-pub overflow_add-i : goal.overflow_add-i
-overflow_add-i c =
-    omega (arith, c.type_inv)
-
 pub loop-i-preserved : goal.loop-i-preserved
 loop-i-preserved c =
     let l = c.args.list in
     let w = c.loop-i in
-    (omega arith, omega (arith, c.add_capped-sum.ensures), w.invariant.2 ∙ sum_step (entry_at c.args.table.now) (list_of c.args.deck.now l) w.i w.sum (omega (arith, list_length c.args.deck.now l.start l.count)) (rw c.item-o.ensures at c.add_capped-sum.ensures))
+    (omega (arith, c.saturating_add-sum.ensures), w.invariant.1 ∙ sum_step (entry_at c.args.table.now) (list_of c.args.deck.now.bytes.now l) w.i w.sum (omega (arith, list_length c.args.deck.now.bytes.now l.start l.count)) (rw c.operand-o.ensures.is at c.saturating_add-sum.ensures))
 
 pub returns : goal.returns
 returns c =
     let l = c.args.list in
     let w = c.loop-i in
-    sum-end (entry_at c.args.table.now) (list_of c.args.deck.now l) w.i w.sum (omega (arith, list_length c.args.deck.now l.start l.count)) w.invariant.1 ∙ sym w.invariant.2
+    sum-end (entry_at c.args.table.now) (list_of c.args.deck.now.bytes.now l) w.i w.sum (omega (arith, list_length c.args.deck.now.bytes.now l.start l.count)) w.invariant.0 ∙ sym w.invariant.1

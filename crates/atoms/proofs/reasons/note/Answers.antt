@@ -1,20 +1,18 @@
-use mathlib.Core.Path.{◌∙◌}
+use Prim.Native.Nat.{ℕ, ◌+◌, ◌<◌, ◌≤◌, min}
+use mathlib.Core.Path.{◌≡◌, sym, ◌∙◌}
+use mathlib.Core.Logic.{⊎_elim}
+use native.Mathlib.Omega.{arith}
 use borrow.Author.Tests.{lt-ltb, le-ltb}
+use Rattle.deck.proofs.CaseLaws.{lt-or-le}
 use Rattle.atoms.specs.Reasons.{noted, counted}
 use Rattle.atoms.proofs.reasons.note.Goals as goal
+use Rattle.atoms.proofs.reasons.note.Goals.{then-has_room, else-has_room}
 
-pub returns-then-total-log : goal.returns-then-total-log
-unfolding noted counted
-returns-then-total-log c =
-    let l = lt-ltb _ _ c.if-total-lt4294967295.true in
-    (c.store.ensures ∙ rw (l, lt-ltb _ _ c.if-total-log.true), rw l)
-
-pub returns-then-total-lt4294967295 : goal.returns-then-total-lt4294967295
-unfolding noted counted
-returns-then-total-lt4294967295 c =
-    (rw (lt-ltb _ _ c.if-total-lt4294967295.true, le-ltb _ _ c.if-total-log.false), rw (lt-ltb _ _ c.if-total-lt4294967295.true))
+one-more : (t : ℕ) → t ≤ 4294967295 → min (t + 1) 4294967295 ≡ counted t
+unfolding counted
+one-more t h = ⊎_elim (λ (l : t < 4294967295). rw (lt-ltb t 4294967295 l) (omega arith)) (λ (g : 4294967295 ≤ t). rw (le-ltb t 4294967295 g) (omega arith)) (lt-or-le t 4294967295)
 
 pub returns : goal.returns
-unfolding noted counted
+unfolding noted
 returns c =
-    (rw (le-ltb _ _ c.if-total-lt4294967295.false), rw (le-ltb _ _ c.if-total-lt4294967295.false))
+    (elim c.if-has_room.branch [ then-has_room w ↦ w.log-is ∙ w.store.ensures ∙ rw (sym c.has_room.ensures ∙ w.if-has_room.true) | else-has_room w ↦ w.log-is ∙ rw (sym c.has_room.ensures ∙ w.if-has_room.false) ], c.saturating_add.ensures ∙ one-more c.args.total (omega arith))

@@ -1,11 +1,11 @@
-use Prim.Native.Nat.{◌+◌, ◌*◌, ◌-◌, ◌≤◌}
+use Prim.Native.Nat.{◌+◌, ◌*◌}
 use mathlib.Core.Path.{◌≡◌}
 use mathlib.Core.List.{map}
 use lib.ListN.{drop}
 use Rattle.deck.specs.Content.{deck_of}
 use Rattle.deck.specs.Reads.{list_of}
 use Rattle.eval.specs.Lists.{every}
-use Rattle.atoms.specs.Leaves.{every_leaf, row_asked}
+use Rattle.atoms.specs.Leaves.{every_leaf}
 use Rattle.atoms.proofs.short.+walk_concept_walk_operands.Given as goal
 
 abbrev pub decreases-walk_concept : goal.decreases-walk_concept
@@ -15,8 +15,5 @@ abbrev pub decreases-walk_operands : goal.decreases-walk_operands
 decreases-walk_operands l = l.owner.0 * 2
 
 abbrev pub invariant-walk_operands-loop-i : goal.invariant-walk_operands-loop-i
-invariant-walk_operands-loop-i l = let p = every_leaf (deck_of l.deck) l.question (row_asked (deck_of l.deck) l.labels l.elements l.question) in
-    (l.i ≤ l.count) × (every (map p (list_of l.deck l.list)) ≡ every (map p (drop l.i (list_of l.deck l.list))))
-
-abbrev pub decreases-walk_operands-loop-i : goal.decreases-walk_operands-loop-i
-decreases-walk_operands-loop-i l = l.count - l.i
+invariant-walk_operands-loop-i l = let p = every_leaf (deck_of l.deck.bytes.now) l.question in
+    every (map p (list_of l.deck.bytes.now l.list)) ≡ every (map p (drop l.i (list_of l.deck.bytes.now l.list)))

@@ -1,12 +1,8 @@
-use Prim.Native.Nat.{◌-◌, ◌≤◌}
 use mathlib.Core.Path.{◌≡◌}
-use lib.ListN.{length, drop}
+use lib.ListN.{drop}
 use Rattle.deck.specs.Reads.{list_of}
 use Rattle.atoms.specs.Label.{insert_all}
 use Rattle.atoms.proofs.subsumers.insert_row.Given as goal
 
 abbrev pub invariant-loop-i : goal.invariant-loop-i
-invariant-loop-i l = (l.i ≤ l.count) × (length l.label ≡ length l.initial.label) × (insert_all l.initial.label (list_of l.deck l.row) ≡ insert_all l.label (drop l.i (list_of l.deck l.row)))
-
-abbrev pub decreases-loop-i : goal.decreases-loop-i
-decreases-loop-i l = l.count - l.i
+invariant-loop-i l = insert_all l.initial.label (list_of l.deck.bytes.now l.row) ≡ insert_all l.label (drop l.i (list_of l.deck.bytes.now l.row))

@@ -1,42 +1,23 @@
-use mathlib.Core.Path.{refl, sym, ◌∙◌}
+use Prim.Native.Nat.{ℕ}
+use mathlib.Core.Bool.{Bool}
+use mathlib.Core.Path.{refl, ◌∙◌}
 use native.Mathlib.Omega.{arith}
+use borrow.Author.Tests.{tests}
+use lib.ListN.{get_or}
+use Rattle.std.proofs.Common.{rules}
+use Rattle.std.proofs.lemmas.Iterator.{YieldsList-from_range}
+use Rattle.std.proofs.lemmas.Iterator.Search.{all_from_yields_List}
+use Rattle.deck.specs.Deck.{has}
 use Rattle.deck.specs.Reads.{list_of}
 use Rattle.deck.proofs.TableLaws.{list_length}
-use Rattle.atoms.proofs.ListWalks.{every-end, every-step, every-stop}
+use Rattle.atoms.proofs.ListWalks.{all-places}
 use Rattle.atoms.proofs.target_label.holds_all.Goals as goal
-
-pub loop-i-init : goal.loop-i-init
-loop-i-init c =
-    (omega arith, refl)
-
-pub item-requires : goal.item-requires
-item-requires c =
-    record { accepted = c.requires.accepted; within = c.requires.within_2; i_lt_count = omega arith }
-
-pub row_has-requires : goal.row_has-requires
-row_has-requires c =
-    record { accepted = c.requires.accepted; within = c.requires.within; rises = c.requires.rises }
-
-pub returns-then-not-row_has : goal.returns-then-not-row_has
-returns-then-not-row_has c =
-    let l = c.args.list in
-    let h = list_length c.args.deck.now l.start l.count in
-    let w = c.loop-i in
-    every-stop 0 (list_of c.args.deck.now l) w.i _ (omega (arith, h)) (rw c.item.ensures at (sym c.row_has.ensures) ∙ c.if-not-row_has.true) ∙ sym w.invariant.1
-
-pub overflow_add-i : goal.overflow_add-i
-overflow_add-i c =
-    omega (arith, c.type_inv)
-
-pub loop-i-preserved : goal.loop-i-preserved
-loop-i-preserved c =
-    let l = c.args.list in
-    let h = list_length c.args.deck.now l.start l.count in
-    let w = c.loop-i in
-    (omega arith, w.invariant.1 ∙ every-step 0 (list_of c.args.deck.now l) w.i _ (omega (arith, h)) (rw c.item.ensures at (sym c.row_has.ensures) ∙ c.if-not-row_has.false))
 
 pub returns : goal.returns
 returns c =
-    let l = c.args.list in
-    let h = list_length c.args.deck.now l.start l.count in
-    every-end 0 (list_of c.args.deck.now l) c.loop-i.i _ (omega (arith, h)) ∙ sym c.loop-i.invariant.1
+    let s = c.args.deck.now.bytes.now in
+    let list = c.args.list in
+    let l = list_of s list in
+    let p = has (list_of s c.args.row) in
+    let at : ℕ → Bool = λ i. p (get_or l i 0) in
+    all_from_yields_List at _ _ _ c.all.ensures.ran (YieldsList-from_range 0 list.count list.count refl (omega arith)) (λ x b q k. search (rules, tests)) ∙ all-places p l _ (list_length s list.start list.count)

@@ -9,13 +9,9 @@ pub returns-then-holds_range : goal.returns-then-holds_range
 returns-then-holds_range c =
     record { value = target_row _ _ _ (sym c.holds_range.ensures ∙ c.if-holds_range.true); target_fits = c.requires.y_bound }
 
-pub injected_target-requires : goal.injected_target-requires
-injected_target-requires c =
-    record { accepted = c.requires.accepted; real_class = c.injected_class.ensures.fits }
-
 pub returns : goal.returns
 returns c =
-    let D = deck_of c.args.deck.now in
+    let D = deck_of c.args.deck.now.bytes.now in
     let y = c.args.y.0 in
     let q = c.injected_class.ensures in
-    let e = c.injected_target.ensures in record { value = e ∙ ap (by_injected D y) q.is ∙ target-else D y _ (sym c.holds_range.ensures ∙ c.if-holds_range.false); target_fits = subst (TargetFits D) (sym e) (injected-fits D y (sound _ c.requires.accepted) c.requires.y_bound c.injected_class.result q.fits) }
+    let e = c.injected_target.ensures in record { value = e ∙ ap (by_injected D y) q.is ∙ target-else D y _ (sym c.holds_range.ensures ∙ c.if-holds_range.false); target_fits = subst (TargetFits D) (sym e) (injected-fits D y (sound _ c.args.deck.now.accepted) c.requires.y_bound c.injected_class.result q.fits) }

@@ -1,4 +1,4 @@
-use Prim.Native.Nat.{◌+◌, ◌*◌, ◌-◌, ◌≤◌}
+use Prim.Native.Nat.{◌+◌, ◌*◌, ◌≤◌}
 use Rattle.atoms.proofs.visits.+visits_visits_all.Given as goal
 
 abbrev pub decreases-visits : goal.decreases-visits
@@ -8,7 +8,4 @@ abbrev pub decreases-visits_all : goal.decreases-visits_all
 decreases-visits_all l = l.owner.0 * 2
 
 abbrev pub invariant-visits_all-loop-i : goal.invariant-visits_all-loop-i
-invariant-visits_all-loop-i l = (l.i ≤ l.count) × (l.rest ≤ l.left)
-
-abbrev pub decreases-visits_all-loop-i : goal.decreases-visits_all-loop-i
-decreases-visits_all-loop-i l = l.count - l.i
+invariant-visits_all-loop-i l = l.rest ≤ l.left
