@@ -14,8 +14,8 @@ use crate::bounds::Bounds;
 use crate::building::Build;
 use crate::plan::Plan;
 use crate::tally::Tally;
-use atoms::labels;
 use atoms::bytes::load_row;
+use atoms::labels;
 use deck::Deck;
 use deck::numbers::{ClassId, Element};
 

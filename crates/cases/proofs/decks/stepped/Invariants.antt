@@ -4,4 +4,3 @@ use Rattle.cases.proofs.decks.stepped.Given as goal
 
 abbrev pub invariant-loop-i : goal.invariant-loop-i
 invariant-loop-i l = l.due ≤ l.width
-
