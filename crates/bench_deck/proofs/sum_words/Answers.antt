@@ -14,7 +14,7 @@ loop-i-init c = refl
 
 pub loop-i-preserved : goal.loop-i-preserved
 loop-i-preserved c =
-    c.wrapping_add-sum.ensures ∙ step _ c.loop-i.i _ _ c.loop-i.invariant c.word.ensures
+    step _ c.loop-i.i _ _ c.loop-i.invariant c.word-sum.ensures
 
 pub returns : goal.returns
 returns c = c.loop-i.invariant ∙ ap (sum_of _) (le_antisymm c.loop-i.auto.i-end c.loop-i-test.false)
