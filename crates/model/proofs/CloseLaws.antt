@@ -12,8 +12,6 @@ use lib.Seq.{take_all}
 use lib.Dec.{eqb}
 use borrow.Author.Tests.{ltb-false, eqb-true}
 use Rattle.deck.specs.Deck.{Deck, Axiom, role_at, role_count, has}
-use Rattle.deck.specs.declared.numbers.RoleId.{RoleId}
-use Rattle.deck.specs.Content.{deck_of}
 use Rattle.deck.proofs.BelowLaws.{and_left, and_right}
 use Rattle.eval.specs.declared.edges.Edge.{Edge}
 use Rattle.eval.specs.Structure.{Pair, has_edge, successors, pairs}
@@ -23,15 +21,12 @@ use Rattle.eval.proofs.Clash.{clash}
 use Rattle.eval.proofs.ListLaws.{any_at, any_of}
 use Rattle.eval.proofs.LinkLaws.{both, has-edge-is}
 use Rattle.eval.proofs.EdgeLaws as edge-laws
+use Rattle.std.specs.Prelude.{Option, Some, None, IfSome}
 use Rattle.model.specs.declared.rules.Rule.{Rule}
-use Rattle.model.specs.declared.rules.Rule.TheVariants.{Compose, NoRule}
-use Rattle.build.specs.declared.tally.Tally.{Tally}
-use Rattle.build.specs.declared.tally.Step.{Step}
-use Rattle.build.specs.Push.{State, edge, added, push_edge, Left}
+use Rattle.build.specs.Push.{State, edge, added, push_edge}
 use Rattle.model.specs.Rules.{rule_of, RuleFits}
 use Rattle.atoms.specs.Walk.{walk}
-use Rattle.model.specs.Closing.{graph, join, close_from, close_rule, close_by, close_axiom, close_pass, EdgesFit, Ready}
-use Rattle.build.proofs.PushLaws.{left-room, left-edges}
+use Rattle.model.specs.Closing.{graph, join, close_from, close_rule, close_by, close_axiom, close_pass, EdgesFit}
 use Rattle.atoms.proofs.WalkLaws.{walk-keeps, walk-fixed, walk-placed}
 
 -- ---- the edges of a state
@@ -122,9 +117,9 @@ module _ (D : Deck) (n limit : ℕ) where
   unfolding close_rule
   rule-stuck a b v s e = walk-fixed _ (pairs D (graph n s.edges) a) s (λ p. from-stuck b v p s e)
 
-  by-stuck : (q : Rule) (s : State) → s.tripped ≡ true → close_by D n limit q s ≡ s
-  by-stuck (Compose a b v) s e = rule-stuck a.0 b.0 v.0 s e
-  by-stuck NoRule s e = refl
+  by-stuck : (q : Option Rule) (s : State) → s.tripped ≡ true → close_by D n limit q s ≡ s
+  by-stuck (Some q) s e = rule-stuck q.first.0 q.second.0 q.third.0 s e
+  by-stuck None s e = refl
 
   pub axiom-stuck : (x : Axiom) (s : State) → s.tripped ≡ true → close_axiom D n limit x s ≡ s
   unfolding close_axiom
@@ -136,9 +131,9 @@ module _ (D : Deck) (n limit : ℕ) where
   Keeps Q a b v = (s u t : State) → Q s → Q u → Q t → (x y z : ℕ) → x < n → z < n → linked D s.edges a x y ≡ true → linked D u.edges b y z ≡ true
       → t.tripped ≡ false → linked D t.edges v x z ≡ false → Q (added limit (edge v x z) t)
 
-  abbrev pub KeepsBy : (State → Type 0) → Rule → Type 0
-  KeepsBy Q (Compose a b v) = Keeps Q a.0 b.0 v.0
-  KeepsBy Q NoRule = Unit {0}
+  abbrev pub KeepsBy : (State → Type 0) → Option Rule → Type 0
+  KeepsBy Q (Some q) = Keeps Q q.first.0 q.second.0 q.third.0
+  KeepsBy Q None = Unit {0}
 
   module _ (Q : State → Type 0) where
     from-keeps : (a b v : ℕ) → Keeps Q a b v → (s u : State) → Q s → Q u → (p : Pair) → p.from < n → linked D s.edges a p.from p.to ≡ true → Q (close_from D n limit b v p u)
@@ -157,9 +152,9 @@ module _ (D : Deck) (n limit : ℕ) where
         let w = edge-laws.in_pairs D (graph n s.edges) a p m in
         from-keeps a b v K s u qs qu p w.from_in (sym (linked-is D n s.edges a p.from p.to) ∙ w.has)) s qs
 
-    by-keeps : (q : Rule) → KeepsBy Q q → (s : State) → Q s → Q (close_by D n limit q s)
-    by-keeps (Compose a b v) K s qs = rule-keeps a.0 b.0 v.0 K s qs
-    by-keeps NoRule K s qs = qs
+    by-keeps : (q : Option Rule) → KeepsBy Q q → (s : State) → Q s → Q (close_by D n limit q s)
+    by-keeps (Some q) K s qs = rule-keeps q.first.0 q.second.0 q.third.0 K s qs
+    by-keeps None K s qs = qs
 
     pub axiom-keeps : (x : Axiom) → KeepsBy Q (rule_of x) → (s : State) → Q s → Q (close_axiom D n limit x s)
     unfolding close_axiom
@@ -207,9 +202,9 @@ module _ (D : Deck) (n limit : ℕ) where
   unfolding close_rule
   rule-grows a b v s = walk-grows (close_from D n limit b v) (from-grows b v) (pairs D (graph n s.edges) a) s
 
-  by-grows : (q : Rule) (s : State) → Grows s.edges (close_by D n limit q s).edges
-  by-grows (Compose a b v) s = rule-grows a.0 b.0 v.0 s
-  by-grows NoRule s = grows-refl s.edges
+  by-grows : (q : Option Rule) (s : State) → Grows s.edges (close_by D n limit q s).edges
+  by-grows (Some q) s = rule-grows q.first.0 q.second.0 q.third.0 s
+  by-grows None s = grows-refl s.edges
 
   pub axiom-grows : (x : Axiom) (s : State) → Grows s.edges (close_axiom D n limit x s).edges
   unfolding close_axiom
@@ -219,10 +214,10 @@ module _ (D : Deck) (n limit : ℕ) where
   pass-grows s = rw (pass-in-order D n limit s) (walk-grows (close_axiom D n limit) axiom-grows D.axioms s)
 
   -- ---- within the bound
-  pub bound-keeps : (q : Rule) → KeepsBy D n limit (Bound limit) q
+  pub bound-keeps : (q : Option Rule) → KeepsBy D n limit (Bound limit) q
   unfolding Keeps
-  bound-keeps (Compose a b v) = λ s u t bs bu bt x y z hx hz ea eb et el. bound-added limit (edge v.0 x z) t et bt
-  bound-keeps NoRule = tt
+  bound-keeps (Some q) = λ s u t bs bu bt x y z hx hz ea eb et el. bound-added limit (edge q.third.0 x z) t et bt
+  bound-keeps None = tt
 
   pub pass-bound : (s : State) → length s.edges ≤ limit → (close_pass D n limit s).tripped ≡ false → length (close_pass D n limit s).edges ≤ limit
   unfolding Bound
@@ -232,10 +227,10 @@ module _ (D : Deck) (n limit : ℕ) where
   unfoldable pub FitState : State → Type 0
   FitState s = EdgesFit D n s.edges
 
-  pub fits-keeps : (q : Rule) → RuleFits D q → KeepsBy D n limit FitState q
+  pub fits-keeps : (q : Option Rule) → IfSome q (RuleFits D) → KeepsBy D n limit FitState q
   unfolding Keeps FitState
-  fits-keeps (Compose a b v) F = λ s u t fs fu ft x y z hx hz ea eb et el. fits_snoc D n t.edges (edge v.0 x z) ft (record { role = F.1.1; from = hx; to = hz })
-  fits-keeps NoRule F = tt
+  fits-keeps (Some q) F = λ s u t fs fu ft x y z hx hz ea eb et el. fits_snoc D n t.edges (edge q.third.0 x z) ft (record { role = F.third; from = hx; to = hz })
+  fits-keeps None F = tt
 
   pub rule_fits : (a b v : ℕ) → v < role_count D → (s : State) → EdgesFit D n s.edges → EdgesFit D n (close_rule D n limit a b v s).edges
   unfolding Keeps FitState
@@ -251,41 +246,20 @@ module _ (D : Deck) (n limit : ℕ) where
       join-case D n limit (λ u. EdgesFit D n u.edges) v p.from z t ft
       (λ e g. fits_snoc D n t.edges (edge v p.from z) ft (record { role = F; from = l; to = (edge-laws.in-successors D (graph n s.edges) b p.to z m).0 }))) s f
 
-  pub pass_fits : ((x : Axiom) → Member x D.axioms → RuleFits D (rule_of x)) → (s : State) → EdgesFit D n s.edges → EdgesFit D n (close_pass D n limit s).edges
+  pub pass_fits : ((x : Axiom) → Member x D.axioms → IfSome (rule_of x) (RuleFits D)) → (s : State) → EdgesFit D n s.edges → EdgesFit D n (close_pass D n limit s).edges
   unfolding FitState
   pass_fits F s f = pass-keeps D n limit FitState (λ x i. fits-keeps (rule_of x) (F x i)) s f
 
-  pub axiom-fits : (x : Axiom) → RuleFits D (rule_of x) → (s : State) → EdgesFit D n s.edges → EdgesFit D n (close_axiom D n limit x s).edges
+  pub axiom-fits : (x : Axiom) → IfSome (rule_of x) (RuleFits D) → (s : State) → EdgesFit D n s.edges → EdgesFit D n (close_axiom D n limit x s).edges
   unfolding FitState
   axiom-fits x F s f = axiom-keeps D n limit FitState x (fits-keeps (rule_of x) F) s f
 
--- a step over n elements, said over m
-module _ (D : Deck) {m n : ℕ} (limit : ℕ) (e : m ≡ n) where
-  pub from-same : (b v : ℕ) (p : Pair) (s : State) → close_from D m limit b v p s ≡ close_from D n limit b v p s
-  from-same b v p s = rw e
-
-  pub axiom-same : (x : Axiom) (s : State) → close_axiom D m limit x s ≡ close_axiom D n limit x s
-  axiom-same x s = rw e
-
-  pub pass_same : (s : State) → close_pass D m limit s ≡ close_pass D n limit s
-  pass_same s = rw e
-
--- what a step that trips no bound leaves is ready for the next
-pub ready-next : {d : List ℕ} {limit : ℕ} {was : List (List ℕ)} {log : List ℕ} {t : Tally} {now : List (List ℕ)} {log' : List ℕ} {r : Step} {s : State}
-    → Ready d limit was t → Left limit was log t now log' r s → r.tripped ≡ false → EdgesFit (deck_of d) t.elements s.edges → Ready d limit now r.tally
-ready-next R L e f = record {
-  accepted = R.accepted;
-  few = omega (arith, R.few, L.elements);
-  space = left-room L R.space e;
-  fits = rw (L.elements, left-edges L) f;
-}
-
 -- an axiom with a rule, and one without
 module _ (D : Deck) (n limit : ℕ) (x : Axiom) (s : State) where
-  pub axiom-by : {a b v : RoleId} → rule_of x ≡ Compose a b v → close_rule D n limit a.0 b.0 v.0 s ≡ close_axiom D n limit x s
+  pub axiom-by : {q : Rule} → rule_of x ≡ Some q → close_rule D n limit q.first.0 q.second.0 q.third.0 s ≡ close_axiom D n limit x s
   unfolding close_axiom
   axiom-by q = rw q
 
-  pub axiom-none : rule_of x ≡ NoRule → s ≡ close_axiom D n limit x s
+  pub axiom-none : rule_of x ≡ None → s ≡ close_axiom D n limit x s
   unfolding close_axiom
   axiom-none q = rw q

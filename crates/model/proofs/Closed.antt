@@ -14,7 +14,6 @@ use native.Mathlib.Omega.{arith}
 use lib.ListN.{length, length-append}
 use lib.Dec.{eqb}
 use borrow.Author.Tests.{eqb-true}
-use Rattle.deck.specs.declared.numbers.RoleId.{RoleId}
 use Rattle.deck.specs.Deck.{Deck, Role, Axiom, role_at, role_count, has}
 use Rattle.deck.specs.Sound.{Sound}
 use Rattle.deck.proofs.BelowLaws.{and_left, and_right}
@@ -28,10 +27,11 @@ use Rattle.eval.proofs.Clash.{clash}
 use Rattle.eval.proofs.ListLaws.{any_of}
 use Rattle.eval.proofs.EdgeLaws as edge-laws
 use Rattle.eval.proofs.Order.{composed-holds}
+use Rattle.std.specs.Prelude.{Option, Some, None}
+use Rattle.std.proofs.lemmas.Option.{same_Some}
 use Rattle.model.specs.declared.rules.Rule.{Rule}
-use Rattle.model.specs.declared.rules.Rule.TheVariants.{Compose, NoRule}
 use Rattle.build.specs.Push.{State, edge, added, push_edge}
-use Rattle.model.specs.Rules.{links, chain_rule, rule_of}
+use Rattle.model.specs.Rules.{compose, links, chain_rule, rule_of}
 use Rattle.atoms.specs.Walk.{walk}
 use Rattle.model.specs.Closing.{graph, join, close_from, close_rule, close_axiom, close_pass, closing, close, EdgesFit}
 use Rattle.atoms.proofs.WalkLaws.{walk-keeps}
@@ -101,18 +101,22 @@ module _ (D : Deck) (n limit : ℕ) where
   unfolding close_axiom close_rule
   axiom-still x s e l = go (rule_of x) refl l
     where
-      go : (q : Rule) → rule_of x ≡ q → length (close_axiom D n limit x s).edges ≡ length s.edges → close_axiom D n limit x s ≡ s
-      go (Compose a b v) q l = rw q (walk-still (close_from D n limit b.0 v.0) (from-steady b.0 v.0) (pairs D (graph n s.edges) a.0) s e (rw q at l))
-      go NoRule q l = rw q
+      go : (q : Option Rule) → rule_of x ≡ q → length (close_axiom D n limit x s).edges ≡ length s.edges → close_axiom D n limit x s ≡ s
+      go (Some r) q l = rw q (walk-still (close_from D n limit r.second.0 r.third.0) (from-steady r.second.0 r.third.0) (pairs D (graph n s.edges) r.first.0) s e (rw q at l))
+      go None q l = rw q
 
   axiom-steady : Steady (close_axiom D n limit)
   axiom-steady = record { stuck = axiom-stuck D n limit; grows = axiom-grows D n limit; still = axiom-still }
 
   -- ---- where a pass changes nothing, every rule's edges are there
   pass-closed : Sound D → (t : State) → t.tripped ≡ false → EdgesFit D n t.edges → length (close_pass D n limit t).edges ≡ length t.edges
-      → (x : Axiom) → Member x D.axioms → (a b v : RoleId) → rule_of x ≡ Compose a b v → (p q r : ℕ) → linked D t.edges a.0 p q ≡ true → linked D t.edges b.0 q r ≡ true → linked D t.edges v.0 p r ≡ true
+      → (x : Axiom) → Member x D.axioms → (rule : Rule) → rule_of x ≡ Some rule
+      → (p q r : ℕ) → linked D t.edges rule.first.0 p q ≡ true → linked D t.edges rule.second.0 q r ≡ true → linked D t.edges rule.third.0 p r ≡ true
   unfolding close_rule close_from
-  pass-closed S t e F l x m a b v i p q r ea eb =
+  pass-closed S t e F l x m rule i p q r ea eb =
+      let a = rule.first in
+      let b = rule.second in
+      let v = rule.third in
       let G = graph n t.edges in
       let wa = linked-fits D n t.edges F a.0 p q ea in
       let wb = linked-fits D n t.edges F b.0 q r eb in
@@ -121,13 +125,13 @@ module _ (D : Deck) (n limit : ℕ) where
       (edge-laws.pair-in D G a.0 p q (record { from_in = wa.0; to_in = wa.1; has = linked-is D n t.edges a.0 p q ∙ ea })) in
       let three = walk_step (join D n limit v.0 p) (join-steady v.0 p) (successors D G b.0 q) t e (ap (λ (u : State). length u.edges) two) r
       (edge-laws.successor-in D G b.0 q r wb.1 (linked-is D n t.edges b.0 q r ∙ eb)) in
-      known (rw i at (rule-fits-in D S x m)).1.1 three (linked D t.edges v.0 p r) refl
+      known v.0 (rw i at (rule-fits-in D S x m)).third three (linked D t.edges v.0 p r) refl
     where
-      known : v.0 < role_count D → join D n limit v.0 p r t ≡ t → (c : Bool) → linked D t.edges v.0 p r ≡ c → c ≡ true
-      known h j true k = refl
-      known h j false k =
+      known : (v : ℕ) → v < role_count D → join D n limit v p r t ≡ t → (c : Bool) → linked D t.edges v p r ≡ c → c ≡ true
+      known v h j true k = refl
+      known v h j false k =
           absurd
-          (omega (arith, ap (λ (u : State). length u.edges) (sym (join-new D n limit v.0 p r t (S.roles v.0 h).own e k) ∙ j), length-append t.edges (edge v.0 p r ∷ [])))
+          (omega (arith, ap (λ (u : State). length u.edges) (sym (join-new D n limit v p r t (S.roles v h).own e k) ∙ j), length-append t.edges (edge v p r ∷ [])))
 
   -- ---- closing ends where a pass changes nothing
   settled-now : (s : State) → (close_pass D n limit s).tripped ≡ false → ends D n limit s ≡ true → close_pass D n limit s ≡ s
@@ -191,35 +195,32 @@ unfolding has_edge
 over-linked D n member es r x y = linked-is D n es r x y
 
 module _ (D : Deck) (T : Structure) where
-  module _ {a b v : RoleId} where
-    by-links : (p q r : Role) → links p q r ≡ Compose a b v → composed D T a.0 b.0 v.0 ≡ Holds → eval-links D T p q r ≡ Holds
+  module _ {rule : Rule} where
+    roles_of : (p q r : ℕ) → compose p q r ≡ Some rule → (p ≡ rule.first.0) × (q ≡ rule.second.0) × (r ≡ rule.third.0)
+    roles_of p q r e = let s = same_Some _ _ e in (ap (λ (u : Rule). u.first.0) s, ap (λ (u : Rule). u.second.0) s, ap (λ (u : Rule). u.third.0) s)
+
+    by-links : (p q r : Role) → links p q r ≡ Some rule → composed D T rule.first.0 rule.second.0 rule.third.0 ≡ Holds → eval-links D T p q r ≡ Holds
     unfolding any
-    by-links (Role.Named p) (Role.Named q) (Role.Named r) e h =
-        let i : p ≡ a.0 = cc in
-        let j : q ≡ b.0 = cc in
-        let k : r ≡ v.0 = cc in
-        rw (i, j, k) h
+    by-links (Role.Named p) (Role.Named q) (Role.Named r) e h = let s = roles_of p q r e in rw (s.0, s.1, s.2) h
     by-links (Role.Named p) (Role.Named q) (Role.Inverse r) e h = clash (cc)
     by-links (Role.Named p) (Role.Inverse q) r e h = clash (cc)
     by-links (Role.Inverse p) q r e h = clash (cc)
 
-    by_chain : (l : List Role) (sup : Role) → chain_rule l sup ≡ Compose a b v → composed D T a.0 b.0 v.0 ≡ Holds → verdict D T (Axiom.SubObjectPropertyChain l sup) ≡ Holds
+    by_chain : (l : List Role) (sup : Role) → chain_rule l sup ≡ Some rule → composed D T rule.first.0 rule.second.0 rule.third.0 ≡ Holds → verdict D T (Axiom.SubObjectPropertyChain l sup) ≡ Holds
     unfolding verdict
     by_chain [] sup e h = clash (cc)
     by_chain (p ∷ []) sup e h = clash (cc)
     by_chain (p ∷ q ∷ []) sup e h = by-links p q sup e h
     by_chain (p ∷ q ∷ r ∷ l) sup e h = clash (cc)
 
-    by_word : (r : Role) → links r r r ≡ Compose a b v → composed D T a.0 b.0 v.0 ≡ Holds → verdict D T (Axiom.TransitiveRole r) ≡ Holds
+    by_word : (r : Role) → links r r r ≡ Some rule → composed D T rule.first.0 rule.second.0 rule.third.0 ≡ Holds → verdict D T (Axiom.TransitiveRole r) ≡ Holds
     unfolding verdict any
     by_word (Role.Named r) e h =
-        let i : r ≡ a.0 = cc in
-        let j : r ≡ b.0 = cc in
-        let k : r ≡ v.0 = cc in
-        ap (λ x. composed D T x r r) i ∙ ap (λ x. composed D T a.0 x r) j ∙ ap (λ x. composed D T a.0 b.0 x) k ∙ h
+        let s = roles_of r r r e in
+        ap (λ x. composed D T x r r) s.0 ∙ ap (λ x. composed D T rule.first.0 x r) s.1 ∙ ap (λ x. composed D T rule.first.0 rule.second.0 x) s.2 ∙ h
     by_word (Role.Inverse r) e h = clash (cc)
 
-    by-rule : (x : Axiom) → rule_of x ≡ Compose a b v → composed D T a.0 b.0 v.0 ≡ Holds → verdict D T x ≡ Holds
+    by-rule : (x : Axiom) → rule_of x ≡ Some rule → composed D T rule.first.0 rule.second.0 rule.third.0 ≡ Holds → verdict D T x ≡ Holds
     unfolding rule_of
     by-rule (Axiom.SubClassOf x y) e h = clash (cc)
     by-rule (Axiom.EquivalentClasses x) e h = clash (cc)
@@ -250,20 +251,20 @@ module _ (D : Deck) (T : Structure) where
 
 module _ (D : Deck) (S : Sound D) (n limit : ℕ) (s : State) (l : length s.edges ≤ limit) (F : EdgesFit D n s.edges) (e : (close D n limit s).tripped ≡ false) where
   -- the edges that closing left are closed under every rule
-  pub closed : (x : Axiom) → Member x D.axioms → (a b v : RoleId) → rule_of x ≡ Compose a b v → (p q r : ℕ)
-      → linked D (close D n limit s).edges a.0 p q ≡ true → linked D (close D n limit s).edges b.0 q r ≡ true → linked D (close D n limit s).edges v.0 p r ≡ true
+  pub closed : (x : Axiom) → Member x D.axioms → (rule : Rule) → rule_of x ≡ Some rule → (p q r : ℕ)
+      → linked D (close D n limit s).edges rule.first.0 p q ≡ true → linked D (close D n limit s).edges rule.second.0 q r ≡ true → linked D (close D n limit s).edges rule.third.0 p r ≡ true
   unfolding Settled
   closed = pass-closed D n limit S (close D n limit s) e (close-fits D n limit S s F) (ap (λ (u : State). length u.edges) (settles D n limit (limit - length s.edges) s l (omega arith) e))
 
   -- every two-link chain axiom and every transitive axiom without inverse words Holds
-  pub holds : (member : ℕ → ℕ → Bool) (x : Axiom) → Member x D.axioms → (a b v : RoleId) → rule_of x ≡ Compose a b v → verdict D (over n member (close D n limit s).edges) x ≡ Holds
-  holds member x m a b v i =
+  pub holds : (member : ℕ → ℕ → Bool) (x : Axiom) → Member x D.axioms → (rule : Rule) → rule_of x ≡ Some rule → verdict D (over n member (close D n limit s).edges) x ≡ Holds
+  holds member x m rule i =
       let T = over n member (close D n limit s).edges in
       by-rule D T x i
-      (composed-holds D T a.0 b.0 v.0
+      (composed-holds D T rule.first.0 rule.second.0 rule.third.0
       (λ p q r k j.
-      over-linked D n member (close D n limit s).edges v.0 p r
-      ∙ closed x m a b v i p q r (sym (over-linked D n member (close D n limit s).edges a.0 p q) ∙ k.has) (sym (over-linked D n member (close D n limit s).edges b.0 q r) ∙ j.has)))
+      over-linked D n member (close D n limit s).edges rule.third.0 p r
+      ∙ closed x m rule i p q r (sym (over-linked D n member (close D n limit s).edges rule.first.0 p q) ∙ k.has) (sym (over-linked D n member (close D n limit s).edges rule.second.0 q r) ∙ j.has)))
 
 -- ---- closing does not overreach
 -- every edge's pair is in P, under the edge's own role
@@ -273,7 +274,7 @@ Inside P es = (e : Edge) → Member e es → P e.role.0 e.from.0 e.to.0
 -- an assignment of pairs to roles that gives each role at least the pairs of the roles in its row, and is closed under those axioms
 pub record Assignment (D : Deck) (P : ℕ → ℕ → ℕ → Type 0) : Type 0 where
   pub rows : (r q x y : ℕ) → has (role_at D r).sub_roles q ≡ true → P q x y → P r x y
-  pub rules : (x : Axiom) → Member x D.axioms → (a b v : RoleId) → rule_of x ≡ Compose a b v → (p q r : ℕ) → P a.0 p q → P b.0 q r → P v.0 p r
+  pub rules : (x : Axiom) → Member x D.axioms → (rule : Rule) → rule_of x ≡ Some rule → (p q r : ℕ) → P rule.first.0 p q → P rule.second.0 q r → P rule.third.0 p r
 
 module _ (D : Deck) (P : ℕ → ℕ → ℕ → Type 0) (A : Assignment D P) where
   linked-inside : (es : List Edge) → Inside P es → (r x y : ℕ) → linked D es r x y ≡ true → P r x y
@@ -288,15 +289,15 @@ module _ (D : Deck) (P : ℕ → ℕ → ℕ → Type 0) (A : Assignment D P) wh
   unfoldable InsideState : State → Type 0
   InsideState s = Inside P s.edges
 
-  inside-keeps : (n limit : ℕ) (x : Axiom) → Member x D.axioms → (q : Rule) → rule_of x ≡ q → KeepsBy D n limit InsideState q
+  inside-keeps : (n limit : ℕ) (x : Axiom) → Member x D.axioms → (q : Option Rule) → rule_of x ≡ q → KeepsBy D n limit InsideState q
   unfolding Keeps InsideState Inside
-  inside-keeps n limit x m (Compose a b v) i = λ s u t hs hu ht p q r lx lz ea eb et el d k.
+  inside-keeps n limit x m (Some rule) i = λ s u t hs hu ht p q r lx lz ea eb et el d k.
       ⊎_elim (ht d)
       (λ w.
-      let o : d ≡ edge v.0 p r = eq_of_singleton w in
-      rw o (A.rules x m a b v i p q r (linked-inside s.edges hs a.0 p q ea) (linked-inside u.edges hu b.0 q r eb)))
+      let o : d ≡ edge rule.third.0 p r = eq_of_singleton w in
+      rw o (A.rules x m rule i p q r (linked-inside s.edges hs rule.first.0 p q ea) (linked-inside u.edges hu rule.second.0 q r eb)))
       (append_cases t.edges k)
-  inside-keeps n limit x m NoRule i = tt
+  inside-keeps n limit x m None i = tt
 
   -- such an assignment has, for every role, at least the pairs that closing left
   pub least : (n limit : ℕ) (s : State) → Inside P s.edges → (member : ℕ → ℕ → Bool) (r x y : ℕ) → has_edge D (over n member (close D n limit s).edges) r x y ≡ true → P r x y

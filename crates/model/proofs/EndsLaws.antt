@@ -1,102 +1,98 @@
 -- Closing from a pair with the ends of edges as bits: what is ahead, and what is known.
---     ends-start, ends-step, ends-skip     the ends of an element's edges, edge by edge
+--     marking-start, marking-skip, marking-take, marking-end    the ends of an element's edges, edge by edge
 --     new-step, new-here, new-end          the next element that is ahead and not known
 --     adding-start, adding-done, adding-stop, adding-next    the loop that adds an edge to each
---     from-ends                            closing from a pair adds an edge to each element that is ahead and not known
+--     from-ends, pair-step, pair-closes    closing from a pair adds an edge to each element that is ahead and not known
 use Prim.Native.Nat.{ℕ, zero, suc, ◌+◌, ◌-◌, ◌*◌, ◌/◌, ◌%◌, ◌^◌, ◌<◌, ◌≤◌}
-use mathlib.Core.Bool.{Bool, true, false, cond, not, ◌&&◌, ◌||◌, or-false}
-use mathlib.Core.Path.{◌≡◌, refl, sym, ap, subst, ◌∙◌}
+use mathlib.Core.Bool.{Bool, true, false, cond, not, ◌&&◌, ◌||◌, or-false, or_assoc}
+use mathlib.Core.Path.{◌≡◌, refl, sym, ap, ◌∙◌}
 use mathlib.Core.List.{List, [], ◌∷◌, ◌++◌}
 use native.Mathlib.Nat.{zero-div, sub-zero}
 use native.Mathlib.Omega.{arith}
-use lib.ListN.{length, get_or}
+use lib.ListN.{length, get_or, drop, drop_of_length-le}
 use lib.Bits.{bit_and, bit_xor}
 use lib.Dec.{eqb}
 use borrow.Author.Tests.{eq-eqb, ne_eqb}
 use Rattle.deck.specs.Deck.{Deck, role_at, has}
 use Rattle.eval.specs.declared.edges.Edge.{Edge}
-use Rattle.eval.specs.Lists.{keep, range, any}
+use Rattle.eval.specs.Lists.{keep, range}
 use Rattle.eval.specs.Lent.{bit}
-use Rattle.eval.specs.Edges.{edge_of, edges_of, under, goes, linked}
-use Rattle.eval.specs.Index.{from_at, Gap}
+use Rattle.eval.specs.Edges.{under, goes, linked}
+use Rattle.eval.specs.Leaving.{leaving}
+use Rattle.eval.proofs.LeavingLaws.{any-leaving, leaves-in, leaves-from}
+use Rattle.eval.proofs.Walks.{list-step}
 use Rattle.eval.specs.Structure.{Pair, has_edge, successors}
 use Rattle.eval.proofs.Clash.{clash}
-use Rattle.eval.proofs.ListLaws.{member-at}
-use Rattle.eval.proofs.EdgeWalks.{no_edge, edges-length, edges_at}
 use Rattle.eval.proofs.IndexLaws.{goes-off}
 use Rattle.atoms.specs.Label.{label_has, insert_bit}
-use Rattle.build.specs.declared.tally.Tally.{Tally}
-use Rattle.build.specs.declared.tally.Step.{Step}
-use Rattle.model.specs.Pairs.{Near}
-use Rattle.build.specs.Push.{State, edge, added, quiet, start, Left, Room}
+use Rattle.build.specs.declared.building.Build.{Build}
+use Rattle.build.specs.Building.{HasRoom, Pushed, deck_in, state_of}
+use Rattle.deck.proofs.SoundLaws.{sound}
+use Rattle.model.specs.declared.rules.Rule.{Rule}
+use Rattle.model.specs.Rules.{RuleFits}
+use Rattle.std.specs.Prelude.{Some, None}
+use Rattle.std.specs.List.{list_any}
+use Rattle.deck.specs.declared.numbers.Element.{Element}
+use Rattle.model.specs.Pairs.{pair_of, Nearest}
+use Rattle.build.specs.Push.{State, edge, added}
 use Rattle.atoms.specs.Walk.{walk}
-use Rattle.model.specs.Closing.{graph, join, close_from, EdgesFit}
+use Rattle.model.specs.Closing.{graph, join, close_from, EdgesFit, Closes}
 use Rattle.model.specs.Ends.{Ends, is_new, add_end, add_ends}
 use Rattle.atoms.proofs.MemberLaws.{has-insert}
-use Rattle.model.proofs.NextLaws.{any_snoc, edges-next, near_first, near-nothing, next-none, next-some}
+use Rattle.model.proofs.NextLaws.{any_snoc, near_first, near-nothing, next-none, next-some}
 use Rattle.model.proofs.WordLaws.{NoneOf, bit-without, word-step, word-hit}
-use Rattle.build.proofs.PushLaws.{left_is}
-use Rattle.build.proofs.OnLaws.{OnEdges, on-start, on-done, on-stop, on-next}
-use Rattle.model.proofs.CloseLaws.{linked-is, join-known, join-new, join-stuck}
+use Rattle.model.proofs.EdgeSteps.{OnBuild, on-start, on-done, on-stop, on-next, pushed-is, pushed-by, closes-on}
+use Rattle.model.proofs.CloseLaws.{linked-is, join-known, join-new, join-stuck, from-fits}
 
--- ---- edge by edge
--- words that are 0, and no edge
-pub ends-start : (D : Deck) (n : ℕ) (rows : List (List ℕ)) (r x : ℕ) (bits : List ℕ) (words : ℕ) → n ≤ words * 64 → ((k : ℕ) → k < words → get_or bits k 0 ≡ 0) → Ends D n (edges_of rows 0) r x bits
-unfolding linked edges_of any label_has
-ends-start D n rows r x bits words h zero-at = record { has = λ (z : ℕ) (l : z < n). rw (zero-at (z / 64) (omega (arith, l, h)), zero-div (2 ^ (z % 64))) }
+-- ---- edge by edge, of those that leave x: the first i are marked
+pub record Marking (D : Deck) (n : ℕ) (es : List Edge) (r x i : ℕ) (bits : List ℕ) : Type 0 where
+  pub has : (z : ℕ) → z < n → linked D es r x z ≡ (label_has bits z || list_any (goes D r x z) (drop i (leaving x es)))
 
--- every end is one of the elements
-pub fits-to : (D : Deck) (n : ℕ) (rows : List (List ℕ)) (count : ℕ) → count ≤ length rows → EdgesFit D n (edges_of rows count) → (j : ℕ) → j < count → (edge_of (get_or rows j [])).to.0 < n
-unfolding EdgesFit
-fits-to D n rows count h F j b =
-    (rw (edges_at rows count j b h) at (F (get_or (edges_of rows count) j no_edge) (member-at no_edge (edges_of rows count) j (omega (arith, b, edges-length rows count h))))).to
-
-module _ (D : Deck) (n : ℕ) (rows : List (List ℕ)) (r x : ℕ) where
-  linked-next : (i : ℕ) → i < length rows → (z : ℕ) → linked D (edges_of rows (i + 1)) r x z ≡ (linked D (edges_of rows i) r x z || goes D r x z (edge_of (get_or rows i [])))
-  unfolding linked
-  linked-next i h z = ap (λ es. linked D es r x z) (edges-next rows i h) ∙ any_snoc (goes D r x z) (edges_of rows i) (edge_of (get_or rows i []))
-
-  -- an edge that leaves x
-  pub ends-step : (i : ℕ) (bits : List ℕ) → i < length rows → from_at rows i ≡ x → (edge_of (get_or rows i [])).to.0 / 64 < length bits → Ends D n (edges_of rows i) r x bits
-      → Ends D n (edges_of rows (i + 1)) r x (cond (under D r (edge_of (get_or rows i []))) (insert_bit bits (edge_of (get_or rows i [])).to.0) bits)
-  ends-step i bits h e fit E = record { has = λ (z : ℕ) (l : z < n). go z l (under D r (edge_of (get_or rows i []))) refl }
-    where
-      go : (z : ℕ) → z < n → (b : Bool) → under D r (edge_of (get_or rows i [])) ≡ b
-          → label_has (cond b (insert_bit bits (edge_of (get_or rows i [])).to.0) bits) z ≡ linked D (edges_of rows (i + 1)) r x z
-      go z l true q =
-          has-insert bits (edge_of (get_or rows i [])).to.0 z fit ∙ ap (λ (b : Bool). b || eqb (edge_of (get_or rows i [])).to.0 z) (E.has z l)
-          ∙ sym (linked-next i h z ∙ rw (eq-eqb (from_at rows i) x e, q) (ap (λ (b : Bool). linked D (edges_of rows i) r x z || b) (and-true (eqb (edge_of (get_or rows i [])).to.0 z))))
-        where
-          and-true : (b : Bool) → (b && true) ≡ b
-          and-true true = refl
-          and-true false = refl
-      go z l false q =
-          E.has z l
-          ∙ sym (linked-next i h z ∙ rw (eq-eqb (from_at rows i) x e, q) (ap (λ (b : Bool). linked D (edges_of rows i) r x z || b) (and-false (eqb (edge_of (get_or rows i [])).to.0 z)) ∙ or-false (linked D (edges_of rows i) r x z)))
-        where
-          and-false : (b : Bool) → (b && false) ≡ false
-          and-false true = refl
-          and-false false = refl
-
-  -- one that leaves another element
-  ends-off : (i : ℕ) (bits : List ℕ) → i < length rows → (from_at rows i ≡ x → ⊥) → Ends D n (edges_of rows i) r x bits → Ends D n (edges_of rows (i + 1)) r x bits
-  ends-off i bits h d E = record {
+module _ (D : Deck) (n : ℕ) (es : List Edge) (r x : ℕ) where
+  -- words that are 0
+  pub marking-start : (bits : List ℕ) (words : ℕ) → n ≤ words * 64 → ((k : ℕ) → k < words → get_or bits k 0 ≡ 0) → Marking D n es r x 0 bits
+  unfolding linked label_has
+  marking-start bits words h zero-at = record {
     has = λ (z : ℕ) (l : z < n).
-        E.has z l
-        ∙ sym (linked-next i h z ∙ ap (λ (b : Bool). linked D (edges_of rows i) r x z || b) (goes-off D r x (edge_of (get_or rows i [])) d z) ∙ or-false (linked D (edges_of rows i) r x z));
+        sym (rw (zero-at (z / 64) (omega (arith, l, h)), zero-div (2 ^ (z % 64))) (any-leaving (goes D r x z) x (λ e d. goes-off D r x e d z) es));
   }
 
-  past : (i m : ℕ) (bits : List ℕ) → i + m ≤ length rows → Gap rows x i (i + m) → Ends D n (edges_of rows i) r x bits → Ends D n (edges_of rows (i + m)) r x bits
-  past i zero bits h g E = let e : i ≡ i + 0 = omega arith in subst (λ (k : ℕ). Ends D n (edges_of rows k) r x bits) e E
-  past i (suc m) bits h g E =
-      let e : i + m + 1 ≡ i + suc m = omega arith in
-      subst (λ (k : ℕ). Ends D n (edges_of rows k) r x bits) e
-      (ends-off (i + m) bits (omega (arith, h)) (g (i + m) (omega arith) (omega arith)) (past i m bits (omega (arith, h)) (λ j p q. g j p (omega (arith, q))) E))
+  module _ (F : EdgesFit D n es) (i : ℕ) (bits : List ℕ) (e : Edge) (l : i < length (leaving x es)) (is : get_or (leaving x es) i e ≡ e) where
+    -- its end is one of the elements
+    pub leaving-to : e.to.0 < n
+    unfolding EdgesFit
+    leaving-to = (F e (leaves-in x es i e l is)).to
 
-  pub ends-skip : (i j : ℕ) (bits : List ℕ) → i ≤ j → j ≤ length rows → Gap rows x i j → Ends D n (edges_of rows i) r x bits → Ends D n (edges_of rows j) r x bits
-  ends-skip i j bits l h g E =
-      let e : i + (j - i) ≡ j = omega (arith, l) in
-      subst (λ (k : ℕ). Ends D n (edges_of rows k) r x bits) e (past i (j - i) bits (omega (arith, l, h)) (λ k p q. g k p (omega (arith, q, l))) E)
+    next : (z : ℕ) → list_any (goes D r x z) (drop i (leaving x es)) ≡ (goes D r x z e || list_any (goes D r x z) (drop (i + 1) (leaving x es)))
+    next z = ap (list_any (goes D r x z)) (list-step e (leaving x es) i l ∙ ap (λ (d : Edge). d ∷ drop (i + 1) (leaving x es)) is)
+
+    pub marking-skip : under D r e ≡ false → Marking D n es r x i bits → Marking D n es r x (i + 1) bits
+    marking-skip h M = record { has = λ z b. M.has z b ∙ ap (λ (t : Bool). label_has bits z || t) (next z ∙ rw (off z)) }
+      where
+        and-off : (b : Bool) → (b && false) ≡ false
+        and-off true = refl
+        and-off false = refl
+
+        off : (z : ℕ) → goes D r x z e ≡ false
+        off z = rw (h, and-off (eqb e.to.0 z), and-off (eqb e.from.0 x))
+
+    pub marking-take : under D r e ≡ true → e.to.0 / 64 < length bits → Marking D n es r x i bits → Marking D n es r x (i + 1) (insert_bit bits e.to.0)
+    marking-take h fit M = record {
+      has = λ z b.
+          M.has z b ∙ ap (λ (t : Bool). label_has bits z || t) (next z ∙ ap (λ (t : Bool). t || list_any (goes D r x z) (drop (i + 1) (leaving x es))) (on z))
+          ∙ sym (or_assoc (label_has bits z) (eqb e.to.0 z) (list_any (goes D r x z) (drop (i + 1) (leaving x es))))
+          ∙ ap (λ (t : Bool). t || list_any (goes D r x z) (drop (i + 1) (leaving x es))) (sym (has-insert bits e.to.0 z fit));
+    }
+      where
+        and-on : (b : Bool) → (b && true) ≡ b
+        and-on true = refl
+        and-on false = refl
+
+        on : (z : ℕ) → goes D r x z e ≡ eqb e.to.0 z
+        on z = rw (h, and-on (eqb e.to.0 z), eq-eqb e.from.0 x (leaves-from x es i e l is))
+
+  pub marking-end : (i : ℕ) (bits : List ℕ) → length (leaving x es) ≤ i → Marking D n es r x i bits → Ends D n es r x bits
+  marking-end i bits h M = record { has = λ z b. sym (M.has z b ∙ rw (drop_of_length-le (leaving x es) {i = i} h, or-false (label_has bits z))) }
 
 -- ---- the next that is new
 module _ (ahead known : List ℕ) where
@@ -110,12 +106,15 @@ module _ (ahead known : List ℕ) where
   pub new-start : (k : ℕ) → NoneOf (is_new ahead known) k k
   new-start k h l u = absurd (omega (arith, l, u))
 
-  pub new-end : (n k i : ℕ) → NoneOf (is_new ahead known) k i → n ≤ i → Near (is_new ahead known) k n n
-  new-end n k i N h = record { le = omega arith; none = λ (u : ℕ) (l : k ≤ u) (b : u < n). N u l (omega (arith, b, h)); got = λ (b : n < n). absurd (omega (arith, b)) }
+  pub new-end : (n k i : ℕ) → NoneOf (is_new ahead known) k i → n ≤ i → Nearest (λ (e : Element). e.0) (is_new ahead known) k n None
+  new-end n k i N h = record {
+    some = tt;
+    none = record { le = omega arith; none = λ (u : ℕ) (l : k ≤ u) (b : u < n). N u l (omega (arith, b, h)); got = λ (b : n < n). absurd (omega (arith, b)) };
+  }
 
   module _ (k i : ℕ) (N : NoneOf (is_new ahead known) k i) {rest : ℕ} (q : rest ≡ word (i / 64) / 2 ^ (i % 64)) where
-    pub new-here : (n : ℕ) → k ≤ i → i < n → rest % 2 ≡ 1 → Near (is_new ahead known) k n i
-    new-here n l h o = record { le = omega (arith, h); none = N; got = λ (b : i < n). (l, word-hit (is_new ahead known) word new-bit k i N q o) }
+    pub new-here : (n : ℕ) → k ≤ i → i < n → rest % 2 ≡ 1 → Nearest (λ (e : Element). e.0) (is_new ahead known) k n (Some (record { 0 = i }))
+    new-here n l h o = record { some = (h, record { le = omega (arith, h); none = N; got = λ (b : i < n). (l, word-hit (is_new ahead known) word new-bit k i N q o) }); none = tt }
 
     pub new-step : (rest % 2 ≡ 1 → ⊥) → {next : ℕ} → next ≡ cond (eqb rest 0) ((i / 64 + 1) * 64) (i + 1) → NoneOf (is_new ahead known) k next
     new-step o p = word-step (is_new ahead known) word new-bit k i N q o p
@@ -129,30 +128,33 @@ pub add-quiet : (limit v x z : ℕ) (s : State) → s.tripped ≡ false → adde
 unfolding add_end
 add-quiet limit v x z s e = rw e
 
--- ---- the loop: edges to the elements below `after` that pass are in
-pub record Adding (limit v x : ℕ) (p : ℕ → Bool) (n : ℕ) (was : List (List ℕ)) (log : List ℕ) (t : Tally) (now : List (List ℕ)) (log' : List ℕ) (held : Tally) (after : ℕ) : Type 0 where
-  pub le : after ≤ n
-  pub on : OnEdges limit (add_end limit v x) (keep p (range 0 n)) (keep p (range after (n - after))) was log t now log' held
+-- ---- the loop: edges to the elements below `from` that pass are in
+pub record Adding (a : Build) (v x : ℕ) (p : ℕ → Bool) (b : Build) (from : ℕ) : Type 0 where
+  pub le : from ≤ a.tally.elements
+  pub on : OnBuild a (add_end a.plan.bounds.max_edges v x) (keep p (range 0 a.tally.elements)) (keep p (range from (a.tally.elements - from))) b
 
-module _ {limit : ℕ} (v x : ℕ) (p : ℕ → Bool) (n : ℕ) {was : List (List ℕ)} (log : List ℕ) {t : Tally} where
-  pub adding-start : Room limit was t.edges → Adding limit v x p n was log t was log t 0
-  adding-start R = record { le = omega arith; on = rw (sub-zero n) (on-start R) }
+module _ {a : Build} (v x : ℕ) (p : ℕ → Bool) where
+  pub adding-start : HasRoom a → Adding a v x p a 0
+  adding-start R = record { le = omega arith; on = on-start (ap (λ (n : ℕ). keep p (range 0 n)) (sym (sub-zero a.tally.elements))) R }
 
-  module _ {now : List (List ℕ)} {log' : List ℕ} {held : Tally} {after : ℕ} (G : Adding limit v x p n was log t now log' held after) {z : ℕ} (N : Near p after n z) where
-    pub adding-done : n ≤ z → Left limit was log t now log' (quiet held) (add_ends limit v x p n (start was log t))
+  module _ {b : Build} {from : ℕ} (G : Adding a v x p b from) where
+    pub adding-done : Nearest (λ (e : Element). e.0) p from a.tally.elements None → Pushed a b false (add_ends a.plan.bounds.max_edges v x p a.tally.elements (state_of a))
     unfolding add_ends
-    adding-done h = on-done G.on (next-none p after n G.le (near-nothing p after n z G.le N h) refl)
+    adding-done N = on-done G.on (next-none p from a.tally.elements G.le (near-nothing p from a.tally.elements a.tally.elements G.le N.none (omega arith)) refl)
 
-    module _ (h : z < n) {new : List (List ℕ)} {log'' : List ℕ} {s : Step} (L : Left limit now log' held new log'' s (added limit (edge v x z) (start now log' held))) where
-      rest : keep p (range after (n - after)) ≡ z ∷ keep p (range (z + 1) (n - (z + 1)))
-      rest = next-some p after n G.le (near_first p after n z N h) z refl
+    module _ {z : Element} (N : Nearest (λ (e : Element). e.0) p from a.tally.elements (Some z)) where
+      rest : keep p (range from (a.tally.elements - from)) ≡ z.0 ∷ keep p (range (z.0 + 1) (a.tally.elements - (z.0 + 1)))
+      rest = next-some p from a.tally.elements G.le (near_first p from a.tally.elements z.0 N.some.1 N.some.0) z.0 refl
 
-      pub adding-stop : s.tripped ≡ true → Left limit was log t new log'' s (add_ends limit v x p n (start was log t))
+      step : {c : Build} {r : Bool} → Pushed b c r (added b.plan.bounds.max_edges (edge v x z.0) (state_of b)) → Pushed b c r (add_end a.plan.bounds.max_edges v x z.0 (state_of b))
+      step P = pushed-is (pushed-by G.on.built (λ q n. added q.bounds.max_edges (edge v x z.0) (state_of b)) P) (add-quiet a.plan.bounds.max_edges v x z.0 (state_of b) refl)
+
+      pub adding-stop : {c : Build} → Pushed b c true (added b.plan.bounds.max_edges (edge v x z.0) (state_of b)) → Pushed a c true (add_ends a.plan.bounds.max_edges v x p a.tally.elements (state_of a))
       unfolding add_ends
-      adding-stop w = on-stop G.on rest (left_is L (add-quiet limit v x z (start now log' held) refl)) (λ y u e. add-stuck limit v x y u e) w
+      adding-stop P = on-stop G.on rest (step P) (λ y u e. add-stuck a.plan.bounds.max_edges v x y u e)
 
-      pub adding-next : s.tripped ≡ false → Adding limit v x p n was log t new log'' s.tally (z + 1)
-      adding-next w = record { le = omega (arith, h); on = on-next G.on rest (left_is L (add-quiet limit v x z (start now log' held) refl)) w }
+      pub adding-next : {c : Build} → Pushed b c false (added b.plan.bounds.max_edges (edge v x z.0) (state_of b)) → Adding a v x p c (z.0 + 1)
+      adding-next P = record { le = omega (arith, N.some.0); on = on-next G.on rest (step P) }
 
 -- ---- closing from a pair
 module _ (D : Deck) (n limit v x : ℕ) (own : has (role_at D v).sub_roles v ≡ true) where
@@ -206,3 +208,17 @@ module _ (D : Deck) (n limit v x : ℕ) (own : has (role_at D v).sub_roles v ≡
       (sym
       (joins (has_edge D (graph n s.edges) b p.to) (λ z. label_has ahead z && not (label_has known z)) n 0 s
       (λ z l u. rw (linked-is D n s.edges b p.to z, A.has z (omega (arith, u)), K.has z (omega (arith, u))))))
+
+-- the same of structures: from B, which closing by a rule that began with S has come to
+module _ {S B : Build} (R : Closes S) (G : Pushed S B false (state_of B)) (rule : Rule) (F : RuleFits (deck_in S) rule) (k : ℕ) {c : Build} {r : Bool} where
+  pub pair-step : {ahead known : List ℕ} → Ends (deck_in S) S.tally.elements (state_of B).edges rule.second.0 (k % 65536) ahead → Ends (deck_in S) S.tally.elements (state_of B).edges rule.third.0 (k / 65536) known
+      → Pushed B c r (add_ends B.plan.bounds.max_edges rule.third.0 (k / 65536) (is_new ahead known) B.tally.elements (state_of B))
+      → Pushed B c r (close_from (deck_in S) S.tally.elements S.plan.bounds.max_edges rule.second.0 rule.third.0 (pair_of k) (state_of B))
+  pair-step {ahead} {known} A K P =
+      pushed-is (pushed-by G (λ p n. add_ends p.bounds.max_edges rule.third.0 (k / 65536) (is_new ahead known) n (state_of B)) P)
+      (from-ends (deck_in S) S.tally.elements S.plan.bounds.max_edges rule.third.0 (k / 65536) ((sound _ R.accepted).roles _ F.third).own rule.second.0 (pair_of k) refl (state_of B) A K)
+
+-- and what it leaves
+pub pair-closes : {S B c : Build} → Closes S → Closes B → Pushed S B false (state_of B) → (rule : Rule) → RuleFits (deck_in S) rule → (k : ℕ) → k / 65536 < S.tally.elements
+    → Pushed B c false (close_from (deck_in S) S.tally.elements S.plan.bounds.max_edges rule.second.0 rule.third.0 (pair_of k) (state_of B)) → Closes c
+pair-closes {S} {B} R C G rule F k h Q = closes-on R C G Q (from-fits (deck_in S) S.tally.elements S.plan.bounds.max_edges rule.second.0 rule.third.0 F.third (pair_of k) h (state_of B))

@@ -1,13 +1,21 @@
 -- Walking the pairs of a role by their numbers from × 65,536 + to.
 --     rule-keys      closing by a rule as a walk over numbers
 use Prim.Native.Nat.{ℕ, zero, suc, ◌+◌, ◌-◌, ◌*◌, ◌/◌, ◌%◌, ◌<◌, ◌≤◌}
-use mathlib.Core.Bool.{Bool, true, false, cond}
+use mathlib.Core.Bool.{Bool, true, false, cond, ◌||◌}
 use mathlib.Core.Path.{◌≡◌, refl, sym, ap, ◌∙◌}
 use mathlib.Core.List.{List, [], ◌∷◌, ◌++◌, map, map-append, flat_map, append-nil}
+use native.Mathlib.Nat.{sub-zero}
 use native.Mathlib.Omega.{arith}
+use lib.ListN.{length}
+use lib.Dec.{eqb}
+use Rattle.std.specs.List.{filter}
 use Rattle.deck.specs.Deck.{Deck}
 use Rattle.eval.specs.declared.edges.Edge.{Edge}
-use Rattle.eval.specs.Lists.{keep, range}
+use Rattle.deck.proofs.BelowLaws.{and_right}
+use Rattle.eval.specs.Edges.{edge_of, under, goes, linked}
+use Rattle.eval.specs.Lists.{keep, range, any}
+use Rattle.eval.proofs.Clash.{clash}
+use Rattle.eval.proofs.ListLaws.{any_at, any_of}
 use Rattle.eval.specs.Structure.{pair, has_edge, successors, pairs}
 use Rattle.build.specs.Push.{State}
 use Rattle.model.specs.Pairs.{pair_of, link_key, EndsFit}
@@ -98,6 +106,28 @@ module _ (D : Deck) (n : ℕ) (small : n ≤ 65536) (es : List Edge) (r : ℕ) w
     unfolding pairs
     pairs-keys = let e : 0 * 65536 ≡ 0 = omega arith in rw e at (blocks 0 n)
 
+-- none of the rows passes
+pub none_left : (p : Edge → Bool) (rows : List (List ℕ)) → length (filter (λ w. p (edge_of w)) rows) ≡ 0 → any (map p (map edge_of rows)) ≡ false
+unfolding any
+none_left p [] e = refl
+none_left p (w ∷ rows) e = go (p (edge_of w)) (none_left p rows) e
+  where
+    go : (b : Bool) → (length (filter (λ w. p (edge_of w)) rows) ≡ 0 → any (map p (map edge_of rows)) ≡ false) → length (cond b (w ∷ filter (λ w. p (edge_of w)) rows) (filter (λ w. p (edge_of w)) rows)) ≡ 0 → (b || any (map p (map edge_of rows))) ≡ false
+    go true ih q = absurd (omega (arith, q))
+    go false ih q = ih q
+
+-- no edge of r at all
+unlinked : (D : Deck) (es : List Edge) (r x y : ℕ) → any (map (under D r) es) ≡ false → linked D es r x y ≡ false
+unfolding linked
+unlinked D es r x y h = go (any (map (goes D r x y) es)) refl
+  where
+    go : (b : Bool) → any (map (goes D r x y) es) ≡ b → b ≡ false
+    go true e =
+        let f = any_of (goes D r x y) es e in
+        let w = and_right (eqb f.0.to.0 y) _ (and_right (eqb f.0.from.0 x) _ f.2) in
+        clash (cc (h, any_at (under D r) es f.0 f.1 w))
+    go false e = refl
+
 module _ (D : Deck) (n limit : ℕ) (small : n ≤ 65536) (s : State) where
   pub rule-keys : EdgesFit D n s.edges → (a b v : ℕ) → walk (λ k. close_from D n limit b v (pair_of k)) (keep (link_key D s.edges a) (range 0 (n * 65536))) s ≡ close_rule D n limit a b v s
   unfolding close_rule
@@ -105,7 +135,18 @@ module _ (D : Deck) (n limit : ℕ) (small : n ≤ 65536) (s : State) where
       sym (walk-map (close_from D n limit b v) pair_of (keep (link_key D s.edges a) (range 0 (n * 65536))) s)
       ∙ ap (λ l. walk (close_from D n limit b v) l s) (pairs-keys D n small s.edges a F)
 
+  -- the same over numbers up to `end`
+  pub rule-walk : EdgesFit D n s.edges → (a b v : ℕ) → walk (λ k. close_from D n limit b v (pair_of k)) (keep (link_key D s.edges a) (range 0 (n * 65536 - 0))) s ≡ close_rule D n limit a b v s
+  rule-walk F a b v = ap (λ (m : ℕ). walk (λ k. close_from D n limit b v (pair_of k)) (keep (link_key D s.edges a) (range 0 m)) s) (sub-zero (n * 65536)) ∙ rule-keys F a b v
+
+  -- a role of which there is no edge makes no step
+  pub rule-none : EdgesFit D n s.edges → (a b v : ℕ) → any (map (under D a) s.edges) ≡ false → s ≡ close_rule D n limit a b v s
+  unfolding walk
+  rule-none F a b v h =
+      ap (λ (l : List ℕ). walk (λ k. close_from D n limit b v (pair_of k)) l s) (sym (keep-none (link_key D s.edges a) 0 (n * 65536) (λ u _ _. unlinked D s.edges a (u / 65536) (u % 65536) h)))
+      ∙ rule-keys F a b v
+
 -- targets among at most 65,536 elements
 pub fits-ends : (D : Deck) (n : ℕ) → n ≤ 65536 → (es : List Edge) → EdgesFit D n es → EndsFit es
-unfolding EdgesFit EndsFit
+unfolding EdgesFit
 fits-ends D n small es F e m = omega (arith, (F e m).to)

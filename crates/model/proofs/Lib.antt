@@ -1,4 +1,5 @@
 pub mod TidyLaws
+pub mod EdgeSteps
 pub mod NextLaws
 pub mod WordLaws
 pub mod SkipLaws

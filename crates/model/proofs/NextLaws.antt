@@ -1,6 +1,7 @@
 -- The next pair of a role: a scan of the edges for the nearest number that is hit, one edge at a time.
 --     keep-first                                   what the next one says of those to come
 --     near-start, near_step, near_first, near-nothing   the scan
+--     nearest-of, nearest-first                    what it hands back
 --     key-start, key-next                          one edge more
 use Prim.Native.Nat.{ℕ, zero, suc, ◌+◌, ◌-◌, ◌*◌, ◌/◌, ◌%◌, ◌<◌, ◌≤◌}
 use mathlib.Core.Bool.{Bool, true, false, cond, ◌&&◌, ◌||◌, and-false, and_assoc, and_comm, or-false, or-true, or_assoc}
@@ -21,9 +22,9 @@ use Rattle.eval.specs.Edges.{edge_of, edges_of, under, goes, linked}
 use Rattle.eval.proofs.Clash.{clash}
 use Rattle.eval.proofs.ListLaws.{member-at}
 use Rattle.eval.proofs.EdgeWalks.{no_edge, edges-length, edges_at}
-use Rattle.model.specs.declared.pairs.Found.{Found}
-use Rattle.model.specs.declared.pairs.Found.TheVariants.{At, Nothing}
-use Rattle.model.specs.Pairs.{key_of, link_key, EndsFit, first, nearer_of, Near}
+use Rattle.std.specs.Prelude.{Option, Some, None}
+use Rattle.std.specs.Bool.{then_some}
+use Rattle.model.specs.Pairs.{key_of, link_key, EndsFit, first, nearer_of, Near, Nearest}
 
 -- ---- kept numbers
 -- a part that passes no test is left out
@@ -49,16 +50,16 @@ pub keep-none : (p : ℕ → Bool) (a n : ℕ) → ((u : ℕ) → a ≤ u → u 
 unfolding keep range
 keep-none p a n none = let z : a + n - (a + n) ≡ 0 = omega arith in keep-skip p a n (a + n) (omega arith) (omega arith) none ∙ rw z
 
-first-at : (p : ℕ → Bool) (a n t : ℕ) → first (keep p (range a n)) ≡ At t → (a ≤ t) × (t < a + n) × (keep p (range a n) ≡ t ∷ keep p (range (t + 1) (a + n - (t + 1))))
+first-at : (p : ℕ → Bool) (a n t : ℕ) → first (keep p (range a n)) ≡ Some t → (a ≤ t) × (t < a + n) × (keep p (range a n) ≡ t ∷ keep p (range (t + 1) (a + n - (t + 1))))
 unfolding keep range
 first-at p a zero t e = clash (cc)
 first-at p a (suc n) t e = go (p a) refl (first-at p (suc a) n t)
   where
     go : (b : Bool) → p a ≡ b
-        → (first (keep p (range (suc a) n)) ≡ At t → (suc a ≤ t) × (t < suc a + n) × (keep p (range (suc a) n) ≡ t ∷ keep p (range (t + 1) (suc a + n - (t + 1)))))
+        → (first (keep p (range (suc a) n)) ≡ Some t → (suc a ≤ t) × (t < suc a + n) × (keep p (range (suc a) n) ≡ t ∷ keep p (range (t + 1) (suc a + n - (t + 1)))))
         → (a ≤ t) × (t < a + suc n) × (keep p (range a (suc n)) ≡ t ∷ keep p (range (t + 1) (a + suc n - (t + 1))))
     go true q ih =
-        let h : At a ≡ At t = rw q at e in
+        let h : Some a ≡ Some t = rw q at e in
         let j : a ≡ t = cc in
         let z : n ≡ a + suc n - (t + 1) = omega arith in
         (omega arith, omega arith, rw (q, ← z, add-one, ← j))
@@ -68,28 +69,28 @@ first-at p a (suc n) t e = go (p a) refl (first-at p (suc a) n t)
         (omega arith, omega arith, rw (q, ← z) r.2)
 
 -- the first of the kept passes
-first-hit : (p : ℕ → Bool) (xs : List ℕ) (t : ℕ) → first (keep p xs) ≡ At t → p t ≡ true
+first-hit : (p : ℕ → Bool) (xs : List ℕ) (t : ℕ) → first (keep p xs) ≡ Some t → p t ≡ true
 unfolding keep
 first-hit p [] t e = clash (cc)
 first-hit p (x ∷ xs) t e = go (p x) refl (first-hit p xs t)
   where
-    go : (b : Bool) → p x ≡ b → (first (keep p xs) ≡ At t → p t ≡ true) → p t ≡ true
+    go : (b : Bool) → p x ≡ b → (first (keep p xs) ≡ Some t → p t ≡ true) → p t ≡ true
     go true q ih =
-        let h : At x ≡ At t = rw q at e in
+        let h : Some x ≡ Some t = rw q at e in
         let j : x ≡ t = cc in
         rw j at q
     go false q ih = ih (rw q at e)
 
-none_first : (xs : List ℕ) → first xs ≡ Nothing → xs ≡ []
+none_first : (xs : List ℕ) → first xs ≡ None → xs ≡ []
 none_first [] q = refl
 none_first (x ∷ xs) q = clash (cc)
 
 -- the numbers from `after` on and below `end` that pass, and the first of them
-module _ (p : ℕ → Bool) (after end : ℕ) (le : after ≤ end) {o : Found} (e : o ≡ first (keep p (range after (end - after)))) where
-  pub next-none : o ≡ Nothing → keep p (range after (end - after)) ≡ []
+module _ (p : ℕ → Bool) (after end : ℕ) (le : after ≤ end) {o : Option ℕ} (e : o ≡ first (keep p (range after (end - after)))) where
+  pub next-none : o ≡ None → keep p (range after (end - after)) ≡ []
   next-none q = none_first (keep p (range after (end - after))) (sym e ∙ q)
 
-  module _ (t : ℕ) (q : o ≡ At t) where
+  module _ (t : ℕ) (q : o ≡ Some t) where
     pub next-from : after ≤ t
     next-from = (first-at p after (end - after) t (sym e ∙ q)).0
 
@@ -133,13 +134,24 @@ module _ (hit more : ℕ → Bool) (after end k b : ℕ) (p : Bool) (e : (u : �
       go true ex false ey h eh = stays (λ u g l. let m : b ≤ k = ltb-false _ _ ey in rw (ne_eqb k u (omega arith), and-false))
       go false ex y ey h eh = stays (λ u g l. let m : k < after = leb-false _ _ ex in rw (ne_eqb k u (omega arith), and-false))
 
-pub near_first : (hit : ℕ → Bool) (after end b : ℕ) → Near hit after end b → b < end → At b ≡ first (keep hit (range after (end - after)))
+pub near_first : (hit : ℕ → Bool) (after end b : ℕ) → Near hit after end b → b < end → Some b ≡ first (keep hit (range after (end - after)))
 near_first hit after end b N l =
     let h : after ≤ b = (N.got l).0 in
     rw (keep-hit hit after (end - after) b h (omega arith) N.none (N.got l).1)
 
-pub near-nothing : (hit : ℕ → Bool) (after end b : ℕ) → after ≤ end → Near hit after end b → end ≤ b → Nothing ≡ first (keep hit (range after (end - after)))
+pub near-nothing : (hit : ℕ → Bool) (after end b : ℕ) → after ≤ end → Near hit after end b → end ≤ b → None ≡ first (keep hit (range after (end - after)))
 near-nothing hit after end b g N l = rw (keep-none hit after (end - after) (λ u h m. N.none u h (omega arith)))
+
+pub nearest-of : (hit : ℕ → Bool) (after end b : ℕ) → Near hit after end b → Nearest (λ (k : ℕ). k) hit after end (then_some (ltb b end) b)
+nearest-of hit after end b N = go (ltb b end) refl
+  where
+    go : (t : Bool) → ltb b end ≡ t → Nearest (λ (k : ℕ). k) hit after end (then_some t b)
+    go true e = record { some = (ltb-true _ _ e, N); none = tt }
+    go false e = let q : b ≡ end = omega (arith, N.le, ltb-false b end e) in record { some = tt; none = rw q at N }
+
+pub nearest-first : (hit : ℕ → Bool) (after end : ℕ) → after ≤ end → (r : Option ℕ) → Nearest (λ (k : ℕ). k) hit after end r → r ≡ first (keep hit (range after (end - after)))
+nearest-first hit after end l (Some b) N = near_first hit after end b N.some.1 N.some.0
+nearest-first hit after end l None N = near-nothing hit after end end l N.none (omega arith)
 
 -- ---- one edge more
 map_snoc : {A B : Type 0} (f : A → B) (xs : List A) (x : A) → map f (xs ++ (x ∷ [])) ≡ map f xs ++ (f x ∷ [])
@@ -176,7 +188,6 @@ key-start D rows r u = refl
 
 module _ (D : Deck) (rows : List (List ℕ)) (count r : ℕ) (room : count ≤ length rows) (F : EndsFit (edges_of rows count)) where
   pub ends_at : (i : ℕ) → i < count → get_or (get_or rows i []) 2 0 < 65536
-  unfolding EndsFit
   ends_at i h = rw (edges_at rows count i h room) at (F (get_or (edges_of rows count) i no_edge) (member-at no_edge (edges_of rows count) i (omega (arith, edges-length rows count room))))
 
   pub key-next : (i : ℕ) → i < count → (u : ℕ)

@@ -2,19 +2,20 @@
 use Prim.Native.Nat.{ℕ, zero, suc, ◌-◌, ◌<◌, ◌≤◌}
 use mathlib.Core.Bool.{Bool, true, false, cond, ◌||◌, or-true}
 use mathlib.Core.Path.{◌≡◌, refl, sym, ap, ◌∙◌}
-use mathlib.Core.List.{List}
 use native.Mathlib.Omega.{arith}
 use lib.ListN.{length}
 use lib.Dec.{eqb}
 use borrow.Author.Tests.{eqb-false, eq-eqb, ne_eqb}
+use Rattle.deck.specs.Content.{deck_of}
 use Rattle.deck.specs.Deck.{Deck}
-use Rattle.eval.specs.Edges.{edges_of}
 use Rattle.eval.proofs.Clash.{clash}
-use Rattle.build.specs.declared.tally.Tally.{Tally}
-use Rattle.build.specs.declared.tally.Step.{Step}
-use Rattle.build.specs.Push.{State, reached, quiet, start, Left, Room}
+use Rattle.build.specs.declared.building.Build.{Build}
+use Rattle.build.specs.Building.{HasRoom, Pushed, deck_in, state_of, step_to}
+use Rattle.build.specs.Push.{State, reached}
 use Rattle.model.specs.Closing.{close_pass, closing, close}
-use Rattle.build.proofs.PushLaws.{left-same, left-trans, left_is, left-start, left-quiet, left-count}
+use Rattle.build.proofs.BuildingLaws.{pushed-same, pushed-trans}
+use Rattle.build.proofs.PushLaws.{left-start, left-count}
+use Rattle.model.proofs.EdgeSteps.{pushed-is, pushed-by, pushed-quiet}
 use Rattle.model.proofs.CloseLaws.{pass-grows, grows-length, pass-bound}
 
 module _ (D : Deck) (n limit : ℕ) where
@@ -88,32 +89,38 @@ module _ (D : Deck) (n limit : ℕ) where
         not_yet = rw (rw p at w) (ne_eqb (length (close_pass D n limit s).edges) (length s.edges) (λ q. h (ap (λ (u : State). length u.edges) p ∙ q)))
 
 -- passes one after the other: closing from here is closing from the start
-pub record Turning (D : Deck) (limit : ℕ) (was : List (List ℕ)) (log : List ℕ) (t : Tally) (now : List (List ℕ)) (log' : List ℕ) (held : Tally) : Type 0 where
-  pub left : Left limit was log t now log' (quiet held) (start now log' held)
-  pub goes : close D t.elements limit (start was log t) ≡ close D t.elements limit (start now log' held)
+pub record Turning (a b : Build) : Type 0 where
+  pub pushed : Pushed a b false (state_of b)
+  pub goes : close (deck_in a) a.tally.elements a.plan.bounds.max_edges (state_of a) ≡ close (deck_in a) a.tally.elements a.plan.bounds.max_edges (state_of b)
 
-module _ (D : Deck) (limit : ℕ) (was : List (List ℕ)) (log : List ℕ) (t : Tally) where
-  pub turning-start : Room limit was t.edges → Turning D limit was log t was log t
-  turning-start R = record { left = left-same limit was log t R; goes = refl }
+pub turning-start : {a : Build} → HasRoom a → Turning a a
+turning-start R = record { pushed = pushed-same R; goes = refl }
 
-  module _ {now : List (List ℕ)} {log' : List ℕ} {held : Tally} (G : Turning D limit was log t now log' held)
-      {new : List (List ℕ)} {log'' : List ℕ} {r : Step} (L : Left limit now log' held new log'' r (close_pass D t.elements limit (start now log' held))) where
-    within : length (edges_of now held.edges) ≤ limit
-    within = omega (arith, left-count G.left, G.left.within refl)
+module _ {a b : Build} (G : Turning a b) where
+  within : length (state_of b).edges ≤ a.plan.bounds.max_edges
+  within = omega (arith, left-count G.pushed.left, G.pushed.left.within refl)
 
-    pub turning-trip : r.tripped ≡ true → Left limit was log t new log'' r (close D t.elements limit (start was log t))
-    turning-trip w = left_is (left-trans G.left L) (sym L.is ∙ close-trip D t.elements limit (start now log' held) (reached new log'' r) L.is within w ∙ sym G.goes)
+  module _ {c : Build} {r : Bool} (Q : Pushed b c r (close_pass (deck_in b) b.tally.elements b.plan.bounds.max_edges (state_of b))) where
+    P : Pushed b c r (close_pass (deck_in a) a.tally.elements a.plan.bounds.max_edges (state_of b))
+    P = pushed-by G.pushed (λ p n. close_pass (deck_of p.deck.bytes.now) n p.bounds.max_edges (state_of b)) Q
 
-    pub turning-still : r.tally.edges ≡ held.edges → Left limit was log t new log'' r (close D t.elements limit (start was log t))
+    ended : reached c.edges.now c.log.now (step_to c r) ≡ close (deck_in a) a.tally.elements a.plan.bounds.max_edges (state_of b) → Pushed a c r (close (deck_in a) a.tally.elements a.plan.bounds.max_edges (state_of a))
+    ended e = pushed-trans G.pushed (pushed-is P (sym P.left.is ∙ e ∙ sym G.goes))
+
+    pub turning-trip : r ≡ true → Pushed a c r (close (deck_in a) a.tally.elements a.plan.bounds.max_edges (state_of a))
+    turning-trip w = ended (close-trip (deck_in a) a.tally.elements a.plan.bounds.max_edges (state_of b) (reached c.edges.now c.log.now (step_to c r)) P.left.is within w)
+
+    pub turning-still : c.tally.edges ≡ b.tally.edges → Pushed a c r (close (deck_in a) a.tally.elements a.plan.bounds.max_edges (state_of a))
     turning-still w =
-        left_is (left-trans G.left L)
-        (sym L.is ∙ close-still D t.elements limit (start now log' held) (reached new log'' r) L.is within (left-count L ∙ w ∙ sym (left-count G.left)) ∙ sym G.goes)
+        ended (close-still (deck_in a) a.tally.elements a.plan.bounds.max_edges (state_of b) (reached c.edges.now c.log.now (step_to c r)) P.left.is within (left-count P.left ∙ w ∙ sym (left-count G.pushed.left)))
 
-    pub turning-more : r.tripped ≡ false → (r.tally.edges ≡ held.edges → ⊥) → Turning D limit was log t new log'' r.tally
-    turning-more w h = record {
-      left = left-quiet (left-trans G.left L) w;
-      goes =
-          G.goes
-          ∙ close_more D t.elements limit (start now log' held) (start new log'' r.tally) (left-start L w) within refl
-          (λ q. h (sym (left-count L) ∙ q ∙ left-count G.left));
-    }
+  pub turning-more : {c : Build} → Pushed b c false (close_pass (deck_in b) b.tally.elements b.plan.bounds.max_edges (state_of b)) → (c.tally.edges ≡ b.tally.edges → ⊥) → Turning a c
+  turning-more {c} Q h =
+      let L = P Q in
+      record {
+        pushed = pushed-quiet (pushed-trans G.pushed L);
+        goes =
+            G.goes
+            ∙ close_more (deck_in a) a.tally.elements a.plan.bounds.max_edges (state_of b) (state_of c) (left-start L.left refl) within refl
+            (λ q. h (sym (left-count L.left) ∙ q ∙ left-count G.pushed.left));
+      }

@@ -14,28 +14,28 @@ use Rattle.deck.specs.Reads.{AxiomRead, Within}
 use Rattle.deck.specs.Sound.{Sound, AxiomFits, EachRole, counts_in}
 use Rattle.deck.proofs.CaseLaws.{Cases, case_at}
 use Rattle.eval.proofs.ListLaws.{position}
+use Rattle.std.specs.Prelude.{Option, Some, None, IfSome}
 use Rattle.model.specs.declared.rules.Rule.{Rule}
-use Rattle.model.specs.declared.rules.Rule.TheVariants.{Compose, NoRule}
 use Rattle.model.specs.Rules.{compose, links, chain_rule, rule_of, RuleFits}
 
 -- ---- three role words
 module _ (a b v : ℕ) where
-  pub links-first : inverse_word a ≡ true → NoRule ≡ links (role_of a) (role_of b) (role_of v)
+  pub links-first : inverse_word a ≡ true → None ≡ links (role_of a) (role_of b) (role_of v)
   links-first h = rw h
 
-  pub links-second : inverse_word a ≡ false → inverse_word b ≡ true → NoRule ≡ links (role_of a) (role_of b) (role_of v)
+  pub links-second : inverse_word a ≡ false → inverse_word b ≡ true → None ≡ links (role_of a) (role_of b) (role_of v)
   links-second h k = rw (h, k)
 
-  pub links-third : inverse_word a ≡ false → inverse_word b ≡ false → inverse_word v ≡ true → NoRule ≡ links (role_of a) (role_of b) (role_of v)
+  pub links-third : inverse_word a ≡ false → inverse_word b ≡ false → inverse_word v ≡ true → None ≡ links (role_of a) (role_of b) (role_of v)
   links-third h k l = rw (h, k, l)
 
   links-named : inverse_word a ≡ false → inverse_word b ≡ false → inverse_word v ≡ false → compose (a / 2) (b / 2) (v / 2) ≡ links (role_of a) (role_of b) (role_of v)
   links-named h k l = rw (h, k, l)
 
   pub links-made : inverse_word a ≡ false → inverse_word b ≡ false → inverse_word v ≡ false → {p q r : RoleId} → p.0 ≡ a / 2 → q.0 ≡ b / 2 → r.0 ≡ v / 2
-      → Compose p q r ≡ links (role_of a) (role_of b) (role_of v)
+      → Some (record { first = p; second = q; third = r }) ≡ links (role_of a) (role_of b) (role_of v)
   links-made h k l {p} {q} {r} e f g =
-      ap (λ x. Compose (record { 0 = x }) q r) e ∙ ap (λ y. Compose (record { 0 = a / 2 }) (record { 0 = y }) r) f ∙ ap (λ z. compose (a / 2) (b / 2) z) g ∙ links-named h k l
+      ap (λ (x : ℕ). compose x q.0 r.0) e ∙ ap (λ (y : ℕ). compose (a / 2) y r.0) f ∙ ap (λ (z : ℕ). compose (a / 2) (b / 2) z) g ∙ links-named h k l
 
 -- ---- a list of role words
 pub chain-two : (l : List ℕ) (v : Role) → length l ≡ 2 → links (role_of (get_or l 0 0)) (role_of (get_or l 1 0)) v ≡ chain_rule (map role_of l) v
@@ -44,7 +44,7 @@ chain-two (a ∷ []) v h = absurd (omega arith)
 chain-two (a ∷ b ∷ []) v h = refl
 chain-two (a ∷ b ∷ c ∷ l) v h = absurd (omega arith)
 
-pub chain-other : (l : List ℕ) (v : Role) → (length l ≡ 2 → ⊥) → NoRule ≡ chain_rule (map role_of l) v
+pub chain-other : (l : List ℕ) (v : Role) → (length l ≡ 2 → ⊥) → None ≡ chain_rule (map role_of l) v
 chain-other [] v h = refl
 chain-other (a ∷ []) v h = refl
 chain-other (a ∷ b ∷ []) v h = absurd (h refl)
@@ -52,16 +52,16 @@ chain-other (a ∷ b ∷ c ∷ l) v h = refl
 
 -- ---- a tag
 module _ (s : List ℕ) (x y z : ℕ) where
-  None : ℕ → Type 0
-  None k = (k ≡ 5 → ⊥) → (k ≡ 11 → ⊥) → NoRule ≡ rule_of (axiom_of s k x y z)
+  Ruleless : ℕ → Type 0
+  Ruleless k = (k ≡ 5 → ⊥) → (k ≡ 11 → ⊥) → None ≡ rule_of (axiom_of s k x y z)
 
-  nones : Cases None 26
-  unfolding None axiom_of make_axiom rule_of
+  nones : Cases Ruleless 26
+  unfolding Ruleless axiom_of make_axiom rule_of
   nones = ((((((((((((((((((((((((((tt, (λ h g. refl)), (λ h g. refl)), (λ h g. refl)), (λ h g. refl)), (λ h g. refl)), (λ h g. absurd (h refl))), (λ h g. refl)), (λ h g. refl)), (λ h g. refl)), (λ h g. refl)), (λ h g. refl)), (λ h g. absurd (g refl))), (λ h g. refl)), (λ h g. refl)), (λ h g. refl)), (λ h g. refl)), (λ h g. refl)), (λ h g. refl)), (λ h g. refl)), (λ h g. refl)), (λ h g. refl)), (λ h g. refl)), (λ h g. refl)), (λ h g. refl)), (λ h g. refl)), (λ h g. refl))
 
-  pub no-rule : (tag : ℕ) → tag < 26 → (tag ≡ 5 → ⊥) → (tag ≡ 11 → ⊥) → NoRule ≡ rule_of (axiom_of s tag x y z)
-  unfolding None
-  no-rule tag h = case_at None 26 tag nones h
+  pub no-rule : (tag : ℕ) → tag < 26 → (tag ≡ 5 → ⊥) → (tag ≡ 11 → ⊥) → None ≡ rule_of (axiom_of s tag x y z)
+  unfolding Ruleless
+  no-rule tag h = case_at Ruleless 26 tag nones h
 
   pub chain-rule : chain_rule (map role_of (list_at s x y)) (role_of z) ≡ rule_of (axiom_of s 5 x y z)
   unfolding axiom_of make_axiom rule_of
@@ -72,10 +72,10 @@ module _ (s : List ℕ) (x y z : ℕ) where
   transitive-rule = refl
 
 -- the rule of what was read is the axiom's
-pub rule-read : {s : List ℕ} {k : ℕ} {r : AxiomRecord} → AxiomRead s k r → {q : Rule} → q ≡ rule_of (axiom_of s r.tag r.first r.second r.third) → q ≡ rule_of (axiom_at (deck_of s) k)
+pub rule-read : {s : List ℕ} {k : ℕ} {r : AxiomRecord} → AxiomRead s k r → {q : Option Rule} → q ≡ rule_of (axiom_of s r.tag r.first r.second r.third) → q ≡ rule_of (axiom_at (deck_of s) k)
 rule-read R e = e ∙ ap rule_of R.is
 
-pub rule-read-at : {s : List ℕ} {k : ℕ} {r : AxiomRecord} → AxiomRead s k r → (tag : ℕ) → r.tag ≡ tag → {q : Rule} → q ≡ rule_of (axiom_of s tag r.first r.second r.third) → q ≡ rule_of (axiom_at (deck_of s) k)
+pub rule-read-at : {s : List ℕ} {k : ℕ} {r : AxiomRecord} → AxiomRead s k r → (tag : ℕ) → r.tag ≡ tag → {q : Option Rule} → q ≡ rule_of (axiom_of s tag r.first r.second r.third) → q ≡ rule_of (axiom_at (deck_of s) k)
 rule-read-at R tag h e = rule-read R (rw h e)
 
 -- the list of a chain
@@ -84,19 +84,19 @@ chain-within R h = (rw h at R.fits).0.within
 
 -- ---- the roles of a rule
 module _ (D : Deck) where
-  links-fit : (a b v : Role) → role_id a < role_count D → role_id b < role_count D → role_id v < role_count D → RuleFits D (links a b v)
-  links-fit (Role.Named a) (Role.Named b) (Role.Named v) h k l = (h, (k, l))
+  links-fit : (a b v : Role) → role_id a < role_count D → role_id b < role_count D → role_id v < role_count D → IfSome (links a b v) (RuleFits D)
+  links-fit (Role.Named a) (Role.Named b) (Role.Named v) h k l = record { first = h; second = k; third = l }
   links-fit (Role.Named a) (Role.Named b) (Role.Inverse v) h k l = tt
   links-fit (Role.Named a) (Role.Inverse b) v h k l = tt
   links-fit (Role.Inverse a) b v h k l = tt
 
-  chain_fits : (l : List Role) (v : Role) → EachRole (role_count D) l → role_id v < role_count D → RuleFits D (chain_rule l v)
+  chain_fits : (l : List Role) (v : Role) → EachRole (role_count D) l → role_id v < role_count D → IfSome (chain_rule l v) (RuleFits D)
   chain_fits [] v F k = tt
   chain_fits (a ∷ []) v F k = tt
   chain_fits (a ∷ b ∷ []) v F k = links-fit a b v (F 0 (omega arith)) (F 1 (omega arith)) k
   chain_fits (a ∷ b ∷ c ∷ l) v F k = tt
 
-  rule-fits-of : (x : Axiom) → AxiomFits (counts_in D) (concept_count D) x → RuleFits D (rule_of x)
+  rule-fits-of : (x : Axiom) → AxiomFits (counts_in D) (concept_count D) x → IfSome (rule_of x) (RuleFits D)
   unfolding rule_of
   rule-fits-of (Axiom.SubClassOf x y) F = tt
   rule-fits-of (Axiom.EquivalentClasses x) F = tt
@@ -126,11 +126,11 @@ module _ (D : Deck) where
   rule-fits-of (Axiom.DeclareNamedIndividual x) F = tt
 
   module _ (S : Sound D) where
-    pub rule-fits-at : (i : ℕ) → i < axiom_count D → RuleFits D (rule_of (axiom_at D i))
+    pub rule-fits-at : (i : ℕ) → i < axiom_count D → IfSome (rule_of (axiom_at D i)) (RuleFits D)
     rule-fits-at i h = rule-fits-of (axiom_at D i) (S.axioms i h)
 
-    pub rule-fits-in : (x : Axiom) → Member x D.axioms → RuleFits D (rule_of x)
+    pub rule-fits-in : (x : Axiom) → Member x D.axioms → IfSome (rule_of x) (RuleFits D)
     rule-fits-in x m = let p = position (Axiom.DeclareClass 0) x D.axioms m in rw (← p.2) (rule-fits-at p.0 p.1)
 
-    pub rule-fits-as : (i : ℕ) → i < axiom_count D → {q : Rule} → rule_of (axiom_at D i) ≡ q → RuleFits D q
+    pub rule-fits-as : (i : ℕ) → i < axiom_count D → {q : Rule} → rule_of (axiom_at D i) ≡ Some q → RuleFits D q
     rule-fits-as i h e = rw e at (rule-fits-at i h)

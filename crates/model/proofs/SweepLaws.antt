@@ -1,8 +1,8 @@
 -- The next pair of a role by an index of the edges: an element's edges from run to run, then element by element.
 --     sweep-start, sweep-step, sweep-skip       one element's edges
---     rows-first, rows-nothing                  element by element
---     indexed-left                              edges that a step appends
-use Prim.Native.Nat.{ℕ, zero, suc, ◌+◌, ◌-◌, ◌*◌, ◌<◌, ◌≤◌}
+--     rows-first, rows_on, rows-nothing         element by element
+--     indexed-after                             edges that a step appends
+use Prim.Native.Nat.{ℕ, zero, suc, ◌+◌, ◌-◌, ◌*◌, ◌/◌, ◌<◌, ◌≤◌, max}
 use mathlib.Core.Bool.{Bool, false, and-false}
 use mathlib.Core.Path.{◌≡◌, sym, ap, subst, ◌∙◌}
 use mathlib.Core.Logic.{⊎_elim}
@@ -16,19 +16,19 @@ use Rattle.deck.specs.Content.{deck_of}
 use Rattle.deck.specs.Deck.{Deck}
 use Rattle.deck.proofs.CaseLaws.{lt-or-le}
 use Rattle.eval.specs.declared.edges.Edge.{Edge}
-use Rattle.eval.specs.Lists.{keep, range}
 use Rattle.eval.specs.Edges.{edge_of, edges_of, under}
 use Rattle.eval.specs.Index.{from_at, Gap, high, Indexed}
 use Rattle.eval.proofs.ListLaws.{member-at}
 use Rattle.eval.proofs.EdgeWalks.{no_edge, edges-length, edges_at}
 use Rattle.eval.proofs.IndexLaws.{indexed-kept}
-use Rattle.model.specs.declared.pairs.Found.TheVariants.{At, Nothing}
+use Rattle.std.specs.Prelude.{Some, None}
+use Rattle.build.specs.declared.building.Build.{Build}
 use Rattle.build.specs.declared.tally.Tally.{Tally}
-use Rattle.build.specs.declared.tally.Step.{Step}
-use Rattle.model.specs.Pairs.{key_of, link_key, EndsFit, first, nearer_of, Near}
-use Rattle.build.specs.Push.{State, Left}
+use Rattle.model.specs.Pairs.{key_of, link_key, EndsFit, nearer_of, Near, Nearest}
+use Rattle.build.specs.Building.{Pushed}
+use Rattle.build.specs.Push.{State}
 use Rattle.model.specs.Closing.{EdgesFit, Ready}
-use Rattle.model.proofs.NextLaws.{near-start, near_step, near_first, near-nothing, key-start, key-next, ends_at}
+use Rattle.model.proofs.NextLaws.{near-start, near_step, key-start, key-next, ends_at}
 
 -- ---- one element
 -- an edge that leaves another element is no nearer
@@ -100,41 +100,44 @@ module _ (D : Deck) (rows : List (List ℕ)) (seen r : ℕ) (room : seen ≤ len
         all = λ (q : seen ≤ j). past_to at seen best (omega (arith, h)) (omega arith) (λ k p u. g k p (omega (arith, u, q))) N;
       }
 
--- ---- element by element
+-- ---- element by element: none before x, and from x on the nearest below `stop`
 module _ (hit : ℕ → Bool) (after end : ℕ) where
-  pub rows_none : (u : ℕ) → after ≤ u → u < after → hit u ≡ false
-  rows_none u a b = absurd (omega (arith, a, b))
+  pub rows_none : (x : ℕ) → x ≤ after / 65536 → (u : ℕ) → after ≤ u → u < x * 65536 → hit u ≡ false
+  rows_none x h u a b = absurd (omega (arith, h, a, b))
 
-  module _ (from stop best : ℕ) (past : after ≤ from) (seen : (u : ℕ) → after ≤ u → u < from → hit u ≡ false) (N : Near hit from stop best) where
-    before : (u : ℕ) → after ≤ u → u < best → hit u ≡ false
-    before u a b = ⊎_elim (λ (h : u < from). seen u a h) (λ (h : from ≤ u). N.none u h b) (lt-or-le u from)
+  module _ (x from stop : ℕ) (at : from ≡ max after (x * 65536)) (seen : (u : ℕ) → after ≤ u → u < x * 65536 → hit u ≡ false) where
+    before : (best : ℕ) → Near hit from stop best → (u : ℕ) → after ≤ u → u < best → hit u ≡ false
+    before best N u a b = ⊎_elim (λ (h : u < x * 65536). seen u a h) (λ (h : x * 65536 ≤ u). N.none u (omega (arith, at, h, a)) b) (lt-or-le u (x * 65536))
 
-    pub rows-first : best < stop → stop ≤ end → At best ≡ first (keep hit (range after (end - after)))
-    rows-first h s =
-        near_first hit after end best
-        (record { le = omega (arith, h, s); none = before; got = λ _. (omega (arith, past, (N.got h).0), (N.got h).1) }) (omega (arith, h, s))
+    pub rows-first : stop ≤ end → (best : ℕ) → (best < stop) × Near hit from stop best → Nearest (λ (k : ℕ). k) hit after end (Some best)
+    rows-first s best N = record {
+      some = (omega (arith, N.0, s), record { le = omega (arith, N.0, s); none = before best N.1; got = λ _. (omega (arith, at, (N.1.got N.0).0), (N.1.got N.0).1) });
+      none = tt;
+    }
 
-    pub rows_on : stop ≤ best → (u : ℕ) → after ≤ u → u < stop → hit u ≡ false
-    rows_on h u a b = before u a (omega (arith, b, h))
+    pub rows_on : Near hit from stop stop → (u : ℕ) → after ≤ u → u < stop → hit u ≡ false
+    rows_on = before stop
 
-  pub rows-nothing : after ≤ end → (from : ℕ) → end ≤ from → ((u : ℕ) → after ≤ u → u < from → hit u ≡ false) → Nothing ≡ first (keep hit (range after (end - after)))
-  rows-nothing l from h none =
-      near-nothing hit after end end l
-      (record { le = omega arith; none = λ (u : ℕ) (a : after ≤ u) (b : u < end). none u a (omega (arith, b, h)); got = λ (b : end < end). absurd (omega (arith, b)) }) (omega arith)
+  pub rows-nothing : (x : ℕ) → end ≤ x * 65536 → ((u : ℕ) → after ≤ u → u < x * 65536 → hit u ≡ false) → Nearest (λ (k : ℕ). k) hit after end None
+  rows-nothing x h none = record {
+    some = tt;
+    none = record { le = omega arith; none = λ (u : ℕ) (a : after ≤ u) (b : u < end). none u a (omega (arith, b, h)); got = λ (b : end < end). absurd (omega (arith, b)) };
+  }
 
 -- ---- the index
 -- a step keeps where the edges of before leave
-module _ {limit : ℕ} {was now : List (List ℕ)} {log log' : List ℕ} {t : Tally} {s : Step} {u : State} where
-  pub indexed-left : t.edges ≤ length was → (index : List ℕ) → Indexed was t.elements t.edges index → Left limit was log t now log' s u → Indexed now s.tally.elements s.tally.edges index
-  indexed-left h index I L =
-      let e : s.tally.elements ≡ t.elements = L.elements in
-      rw e (indexed-kept was t.elements t.edges index I now s.tally.edges same L.grown)
+module _ {a b : Build} {r : Bool} {s : State} where
+  pub indexed-after : a.tally.edges ≤ length a.edges.now → (index : List ℕ) → Indexed a.edges.now a.tally.elements a.tally.edges index → Pushed a b r s → Indexed b.edges.now b.tally.elements b.tally.edges index
+  indexed-after h index I P =
+      let L = P.left in
+      let e : b.tally.elements ≡ a.tally.elements = L.elements in
+      rw e (indexed-kept a.edges.now a.tally.elements a.tally.edges index I b.edges.now b.tally.edges same L.grown)
     where
-      same : (j : ℕ) → j < high index → from_at now j ≡ from_at was j
-      same j b =
-          let l : j < t.edges = omega (arith, b, I.within) in
+      same : (j : ℕ) → j < high index → from_at b.edges.now j ≡ from_at a.edges.now j
+      same j g =
+          let l : j < a.tally.edges = omega (arith, g, I.within) in
           ap (λ (e : Edge). e.from.0)
-          (sym (edges_at now t.edges j l (omega (arith, L.size, h))) ∙ ap (λ es. get_or es j no_edge) L.old ∙ edges_at was t.edges j l h)
+          (sym (edges_at b.edges.now a.tally.edges j l (omega (arith, P.left.size, h))) ∙ ap (λ es. get_or es j no_edge) P.left.old ∙ edges_at a.edges.now a.tally.edges j l h)
 
 -- every edge leaves one of the elements
 fits-from : (D : Deck) (n : ℕ) (rows : List (List ℕ)) (count : ℕ) → count ≤ length rows → EdgesFit D n (edges_of rows count) → (j : ℕ) → j < count → from_at rows j < n

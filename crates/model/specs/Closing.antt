@@ -1,5 +1,5 @@
 -- Closing under chains and transitive roles: document 01, section 3, "`close_chains_and_transitivity`".
-use Rattle.std.specs.Prelude.{ℕ, zero, suc, ◌-◌, ◌≤◌, false, cond, ◌||◌, length, eqb}
+use Rattle.std.specs.Prelude.{ℕ, zero, suc, ◌-◌, ◌≤◌, false, cond, ◌||◌, length, eqb, Option, Some, None}
 use mathlib.Core.List.{List, Memᴰ as Member}
 use Rattle.deck.specs.Deck.{Deck, Axiom, axiom_count, axiom_at}
 use Rattle.deck.specs.Content.{IsAccepted, deck_of}
@@ -9,7 +9,7 @@ use Rattle.eval.specs.Structure.{Structure, Pair, has_edge, successors, pairs}
 use Rattle.eval.specs.Edges.{edges_of, edge_in}
 use Rattle.eval.specs.Lent.{EdgeFits}
 use Rattle.model.specs.declared.rules.Rule.{Rule}
-use Rattle.model.specs.declared.rules.Rule.TheVariants.{Compose, NoRule}
+use Rattle.build.specs.declared.building.Build.{Build}
 use Rattle.build.specs.declared.tally.Tally.{Tally}
 use Rattle.build.specs.Push.{State, edge, push_edge, Room}
 use Rattle.model.specs.Rules.{rule_of}
@@ -33,9 +33,9 @@ module _ (D : Deck) (n limit : ℕ) where
   close_rule a b v s = walk (close_from b v) (pairs D (graph n s.edges) a) s
 
   -- by a rule, and by an axiom's rule if it has one
-  abbrev pub close_by : Rule → State → State
-  close_by (Compose a b v) s = close_rule a.0 b.0 v.0 s
-  close_by NoRule s = s
+  abbrev pub close_by : Option Rule → State → State
+  close_by (Some q) s = close_rule q.first.0 q.second.0 q.third.0 s
+  close_by None s = s
 
   unfoldable pub close_axiom : Axiom → State → State
   close_axiom x s = close_by (rule_of x) s
@@ -64,3 +64,6 @@ pub record Ready (s : List ℕ) (limit : ℕ) (rows : List (List ℕ)) (t : Tall
   pub few : t.elements ≤ 65536
   pub space : Room limit rows t.edges
   pub fits : EdgesFit (deck_of s) t.elements (edges_of rows t.edges)
+
+abbrev pub Closes : Build → Type 0
+Closes b = Ready b.plan.deck.bytes.now b.plan.bounds.max_edges b.edges.now b.tally

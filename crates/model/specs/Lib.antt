@@ -1,4 +1,5 @@
 pub mod Pairs
+pub mod PairWalks
 pub mod Rules
 pub mod Closing
 pub mod Ends

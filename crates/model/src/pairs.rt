@@ -1,21 +1,26 @@
 // The pairs of a role one after the other, "by from then to", each as the number from × 65,536 + to.
-ghost use Rattle.std.specs.Prelude.{◌≡◌, ◌+◌, ◌-◌, ◌*◌, ◌/◌, ◌<◌, ◌≤◌, length};
-ghost use Rattle.deck.specs.Content.{IsAccepted, deck_of};
+ghost use Rattle.std.specs.Prelude.{◌≡◌, ◌*◌, ◌<◌, ◌≤◌, length, map, false};
+ghost use Rattle.deck.specs.Content.{deck_of};
 ghost use Rattle.deck.specs.Deck.{role_count};
 ghost use Rattle.eval.specs.Edges.{edges_of, under};
-ghost use Rattle.eval.specs.Lists.{keep, range};
-ghost use Rattle.eval.specs.Index.{Indexed};
-ghost use Rattle.model.specs.Pairs.{key_of, nearer_of, first, link_key, EndsFit, Near};
+ghost use Rattle.eval.specs.Lists.{any};
+ghost use Rattle.model.specs.Pairs.{key_of, EndsFit};
 
+use deck::Deck;
 use deck::numbers::{Element, RoleId};
-use eval::bytes::{is_sub_role, jump};
-use eval::edges::{Edge, edge_at};
-use eval::index::walk_of;
+use eval::edges::{Edge, edge_at, is_sub_role, read_edge};
+use eval::index::{EdgeIndex, walk_of};
 
+// The pairs of a role among the first `seen` edges. The index may have more of them, which were added since.
 #[derive(Clone, Copy)]
-pub enum Found {
-    At(u64),
-    Nothing,
+pub struct Pairs<'d, 'a> {
+    pub deck: Deck<'d>,
+    pub all: EdgeIndex<'a>,
+    pub seen: u32,
+    pub role: RoleId,
+    pub ghost within: { seen ≤ all.count },
+    pub ghost role_bound: { role.0 < role_count (deck_of deck.bytes.now) },
+    pub ghost ends_fit: { EndsFit (edges_of all.edges.now seen) },
 }
 
 fn key(e: Edge) -> u64
@@ -26,185 +31,93 @@ fn key(e: Edge) -> u64
     from * 65536 + to
 }
 
-// The nearer of `best` and the edge's pair, where that is at or after `after` and belongs to r.
-fn nearer(deck: &[u8], e: Edge, r: RoleId, after: u64, best: u64) -> u64
-    requires accepted { IsAccepted deck.now }
-    requires r_bound { r.0 < role_count (deck_of deck.now) }
-    ensures { result ≡ nearer_of after (key_of e) (under (deck_of deck.now) r.0 e) best }
-{
-    let k = key(e);
-    if after <= k {
-        if k < best {
-            if is_sub_role(deck, e, r) {
-                return k;
+impl Pairs<'_, '_> {
+    ghost use Rattle.std.specs.Prelude.{◌+◌, ◌-◌};
+    ghost use Rattle.eval.specs.Lists.{keep, range};
+    ghost use Rattle.model.specs.Pairs.{nearer_of, first, Nearest};
+    ghost use Rattle.model.specs.PairWalks.{hits};
+
+    // The nearer of `best` and the edge's pair, where that is at or after `after` and belongs to the role.
+    fn nearer(&self, e: Edge, after: u64, best: u64) -> u64
+        ensures { result ≡ nearer_of after (key_of e) (under (deck_of self.now.deck.bytes.now) self.now.role.0 e) best }
+    {
+        let k = key(e);
+        if after <= k && k < best && is_sub_role(&self.deck, e, self.role) {
+            return k;
+        }
+        best
+    }
+
+    // The lowest pair from `after` on, by a look at each edge.
+    fn scan(&self, after: u64) -> Option<u64>
+        ensures { Nearest (λ k. k) (hits self.now) after (self.now.all.elements * 65536) result }
+    {
+        let end = self.all.elements as u64 * 65536;
+        let mut best = end;
+        for i in 0..self.seen as usize {
+            best = self.nearer(edge_at(self.all.edges, i), after, best);
+        }
+        (best < end).then_some(best)
+    }
+
+    // The lowest pair that leaves x, from `after` on.
+    fn next_from(&self, x: Element, after: u64) -> Option<u64>
+        requires x_lt_elements { x.0 < self.now.all.elements }
+        requires after_bound { x.0 * 65536 ≤ after }
+        ensures { Nearest (λ k. k) (hits self.now) after (x.0 * 65536 + 65536) result }
+    {
+        let end = x.0 as u64 * 65536 + 65536;
+        let mut w = walk_of(self.all.index, x);
+        let mut best = end;
+        // A `while`: `leaving` would go on to the edges that were added since.
+        while w.at < self.seen as usize {
+            let e = edge_at(self.all.edges, w.at);
+            if e.from != x {
+                w = self.all.jump(x, w);
+                continue;
+            }
+            best = self.nearer(e, after, best);
+            w.at += 1;
+        }
+        (best < end).then_some(best)
+    }
+
+    // The same as `scan`, element by element.
+    fn walk(&self, after: u64) -> Option<u64>
+        requires { after ≤ self.now.all.elements * 65536 }
+        ensures { Nearest (λ k. k) (hits self.now) after (self.now.all.elements * 65536) result }
+    {
+        let elements = self.all.elements;
+        let first = (after / 65536) as u32;
+        for x in first..elements {
+            let from = after.max(x as u64 * 65536);
+            if let Some(k) = self.next_from(Element(x), from) {
+                return Some(k);
             }
         }
+        None
     }
-    best
-}
 
-// The lowest pair of r from `after` on and below `end`, among the first `count` edges: by a look at each.
-fn scan_pair(deck: &[u8], edges: &[[u32; 3]], count: u32, r: RoleId, after: u64, end: u64) -> Found
-    requires accepted { IsAccepted deck.now }
-    requires r_bound { r.0 < role_count (deck_of deck.now) }
-    requires count_in_bounds { count ≤ length edges.now }
-    requires ends_fit { EndsFit (edges_of edges.now count) }
-    requires after_le_end { after ≤ end }
-    ensures { result ≡ first (keep (link_key (deck_of deck.now) (edges_of edges.now count) r.0) (range after (end - after))) }
-{
-    let mut best = end;
-    let mut i = 0;
-    while i < count as usize {
-        best = nearer(deck, edge_at(edges, i), r, after, best);
-        i += 1;
-    }
-    if best < end {
-        Found::At(best)
-    } else {
-        Found::Nothing
-    }
-}
-
-// The lowest pair of r that leaves x, from `after` on, among the first `seen` edges; `end` where there is none.
-fn next_from(
-    deck: &[u8],
-    edges: &[[u32; 3]],
-    count: u32,
-    index: &[u32],
-    elements: u32,
-    seen: u32,
-    r: RoleId,
-    x: Element,
-    after: u64,
-    end: u64,
-) -> u64
-    requires accepted { IsAccepted deck.now }
-    requires r_bound { r.0 < role_count (deck_of deck.now) }
-    requires seen_le_count { (seen ≤ count) × (count ≤ length edges.now) }
-    requires ends_fit { EndsFit (edges_of edges.now seen) }
-    requires indexed { Indexed edges.now elements count index.now }
-    requires x_lt_elements { x.0 < elements }
-    requires x_bound { (x.0 * 65536 ≤ after) × (end ≤ x.0 * 65536 + 65536) }
-    ensures { Near (link_key (deck_of deck.now) (edges_of edges.now seen) r.0) after end result }
-{
-    let mut w = walk_of(index, x);
-    let mut best = end;
-    while w.at < seen as usize {
-        let e = edge_at(edges, w.at);
-        if e.from.0 != x.0 {
-            w = jump(edges, count, index, elements, x, w);
-            continue;
+    // The lowest pair from `after` on: element by element where the index has room for the elements, unless `few` asks for a look at each edge.
+    pub fn next(&self, after: u64, few: bool) -> Option<u64>
+        requires { after ≤ self.now.all.elements * 65536 }
+        ensures { result ≡ first (keep (hits self.now) (range after (self.now.all.elements * 65536 - after))) }
+    {
+        if few || self.all.index.len() <= self.all.elements as usize {
+            return self.scan(after);
         }
-        best = nearer(deck, e, r, after, best);
-        w.at += 1;
+        self.walk(after)
     }
-    best
-}
-
-// Where the pairs of the element that `from` is of end, or `end` if that comes first.
-fn row_end(from: u64, end: u64) -> u64
-    requires { (from < end) × (end ≤ 4294967296 * 65536) }
-    ensures { (from < result) × (result ≤ end) × (result ≤ from / 65536 * 65536 + 65536) }
-{
-    let stop = from / 65536 * 65536 + 65536;
-    if stop < end {
-        return stop;
-    }
-    end
-}
-
-// The same as `scan_pair`, element by element.
-fn walk_pair(
-    deck: &[u8],
-    edges: &[[u32; 3]],
-    count: u32,
-    index: &[u32],
-    elements: u32,
-    seen: u32,
-    r: RoleId,
-    after: u64,
-    end: u64,
-) -> Found
-    requires accepted { IsAccepted deck.now }
-    requires r_bound { r.0 < role_count (deck_of deck.now) }
-    requires seen_le_count { (seen ≤ count) × (count ≤ length edges.now) }
-    requires ends_fit { EndsFit (edges_of edges.now seen) }
-    requires indexed { Indexed edges.now elements count index.now }
-    requires after_le_end { after ≤ end }
-    requires end_bound { end ≤ elements * 65536 }
-    ensures { result ≡ first (keep (link_key (deck_of deck.now) (edges_of edges.now seen) r.0) (range after (end - after))) }
-{
-    let mut from = after;
-    while from < end {
-        let x = (from / 65536) as u32;
-        let stop = row_end(from, end);
-        let best = next_from(
-            deck,
-            edges,
-            count,
-            index,
-            elements,
-            seen,
-            r,
-            Element(x),
-            from,
-            stop,
-        );
-        if best < stop {
-            return Found::At(best);
-        }
-        from = stop;
-    }
-    Found::Nothing
-}
-
-// The lowest pair of r from `after` on and below `end`, among the first `seen` edges. An index of the first `count` is at
-// hand, if it has room for the elements; `few` asks for a look at each edge.
-pub fn next_pair(
-    deck: &[u8],
-    edges: &[[u32; 3]],
-    count: u32,
-    index: &[u32],
-    elements: u32,
-    seen: u32,
-    r: RoleId,
-    after: u64,
-    end: u64,
-    few: bool,
-) -> Found
-    requires accepted { IsAccepted deck.now }
-    requires r_bound { r.0 < role_count (deck_of deck.now) }
-    requires seen_le_count { (seen ≤ count) × (count ≤ length edges.now) }
-    requires ends_fit { EndsFit (edges_of edges.now seen) }
-    requires indexed { Indexed edges.now elements count index.now }
-    requires after_le_end { after ≤ end }
-    ensures { result ≡ first (keep (link_key (deck_of deck.now) (edges_of edges.now seen) r.0) (range after (end - after))) }
-{
-    if few {
-        return scan_pair(deck, edges, seen, r, after, end);
-    }
-    if index.len() <= elements as usize {
-        return scan_pair(deck, edges, seen, r, after, end);
-    }
-    if elements as u64 * 65536 < end {
-        return scan_pair(deck, edges, seen, r, after, end);
-    }
-    walk_pair(deck, edges, count, index, elements, seen, r, after, end)
 }
 
 // How many of the first `count` edges are of r.
-pub fn count_pairs(deck: &[u8], edges: &[[u32; 3]], count: u32, r: RoleId) -> u32
-    requires accepted { IsAccepted deck.now }
-    requires r_bound { r.0 < role_count (deck_of deck.now) }
+pub fn count_pairs(deck: &Deck<'_>, edges: &[[u32; 3]], count: u32, r: RoleId) -> usize
+    requires r_bound { r.0 < role_count (deck_of deck.now.bytes.now) }
     requires count_in_bounds { count ≤ length edges.now }
+    ensures { result ≡ 0 → any (map (under (deck_of deck.now.bytes.now) r.0) (edges_of edges.now count)) ≡ false }
 {
-    let mut pairs = 0;
-    let mut i = 0;
-    while i < count {
-        if is_sub_role(deck, edge_at(edges, i as usize), r) {
-            pairs += 1;
-        }
-        i += 1;
-    }
-    pairs
+    edges[..count as usize]
+        .iter()
+        .filter(|row| is_sub_role(deck, read_edge(row), r))
+        .count()
 }

@@ -13,7 +13,7 @@ ghost use Rattle.model.specs.Phases.{later_phases, Dropped, Constructed};
 ghost use Rattle.model.specs.Rounds.{expand_from_axioms};
 ghost use Rattle.build.specs.Seed.{Seeded};
 
-use crate::closing::close_chains_and_transitivity;
+use crate::closing::close_lent;
 use crate::expand::expand;
 use crate::rounds::expand_from_axioms;
 use atoms::bytes::compute_top_floor;
@@ -128,7 +128,7 @@ fn closing_phase(
         (close (deck_of deck.now) tally.old.elements bounds.max_edges (start edges.old log.old tally.old)) }
 {
     let t = *tally;
-    let s = close_chains_and_transitivity(deck, bounds, edges, log, t);
+    let s = close_lent(deck, bounds, edges, log, t);
     let next = tally_of(s);
     *tally = next;
     has_tripped(s)

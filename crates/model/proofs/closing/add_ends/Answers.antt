@@ -1,53 +1,37 @@
-use Rattle.model.proofs.EndsLaws.{adding-start, adding-done, adding-stop, adding-next}
-use Rattle.build.proofs.PushLaws.{left-room}
-use mathlib.Core.Path.{refl, ◌∙◌}
 use native.Mathlib.Omega.{arith}
+use Rattle.std.proofs.lemmas.Result.{err_from_is_err_and}
+use Rattle.model.proofs.EdgeSteps.{pushed-room}
+use Rattle.model.proofs.EndsLaws.{adding-start, adding-done, adding-stop, adding-next}
 use Rattle.model.proofs.closing.add_ends.Goals as goal
 
-pub loop-t-init : goal.loop-t-init
-loop-t-init c =
-    adding-start _ _ _ _ _ c.requires.room
+pub loop-z-init : goal.loop-z-init
+loop-z-init c =
+    adding-start _ _ _ c.requires.room
 
-pub next_new-z-requires : goal.next_new-z-requires
-next_new-z-requires c =
-    record { elements_bound = c.requires.elements_bound; elements_in_bounds = c.requires.elements_in_bounds; elements_in_bounds_2 = c.requires.elements_in_bounds_2 }
+pub add_edge-requires : goal.add_edge-requires
+add_edge-requires c =
+    pushed-room c.loop-z.invariant.on.built c.requires.room
 
-pub shape_of-edges-then-t-z : goal.shape_of-edges-then-t-z
-shape_of-edges-then-t-z c =
-    c.loop-t.invariant.on.built.size
+pub returns-in_err-add_edge : goal.returns-in_err-add_edge
+returns-in_err-add_edge c =
+    let G = c.loop-z.invariant in
+    let q = err_from_is_err_and c.from_residual.result c.from_residual.ensures.1 in
+    rw q.1 (adding-stop _ _ _ G c.in-Some.ensures c.in_err-add_edge.ensures)
 
-pub shape_of-log-then-t-z : goal.shape_of-log-then-t-z
-shape_of-log-then-t-z c =
-    c.loop-t.invariant.on.built.log-size
+pub overflow_add-from : goal.overflow_add-from
+overflow_add-from c =
+    omega (arith, c.in-Some.ensures.some.0, c.requires.elements_bound)
 
-pub returns-then-t-z : goal.returns-then-t-z
-returns-then-t-z c =
-    rw c.quiet.ensures (adding-done _ _ _ _ _ c.loop-t.invariant c.next_new-z.ensures c.if-t-z.true)
+pub loop-z-smaller : goal.loop-z-smaller
+loop-z-smaller c =
+    let N = c.in-Some.ensures.some in
+    omega (arith, N.0, (N.1.got N.0).0)
 
-pub add_edge-s-requires : goal.add_edge-s-requires
-add_edge-s-requires c =
-    left-room c.loop-t.invariant.on.built c.requires.room refl
+pub loop-z-preserved : goal.loop-z-preserved
+loop-z-preserved c =
+    let G = c.loop-z.invariant in
+    adding-next _ _ _ G c.in-Some.ensures c.in_ok-add_edge.ensures
 
-pub shape_of-edges-then-tripped : goal.shape_of-edges-then-tripped
-shape_of-edges-then-tripped c =
-    c.add_edge-s.ensures.size ∙ c.loop-t.invariant.on.built.size
-
-pub shape_of-log-then-tripped : goal.shape_of-log-then-tripped
-shape_of-log-then-tripped c =
-    c.add_edge-s.ensures.log-size ∙ c.loop-t.invariant.on.built.log-size
-
-pub returns-then-tripped : goal.returns-then-tripped
-returns-then-tripped c =
-    adding-stop _ _ _ _ _ c.loop-t.invariant c.next_new-z.ensures (omega (arith, c.if-t-z.false)) c.add_edge-s.ensures c.if-tripped.true
-
-pub overflow_add-after : goal.overflow_add-after
-overflow_add-after c =
-    omega (arith, c.if-t-z.false, c.requires.elements_bound)
-
-pub loop-t-smaller : goal.loop-t-smaller
-loop-t-smaller c =
-    omega (arith, c.if-t-z.false, (c.next_new-z.ensures.got (omega (arith, c.if-t-z.false))).0)
-
-pub loop-t-preserved : goal.loop-t-preserved
-loop-t-preserved c =
-    adding-next _ _ _ _ _ c.loop-t.invariant c.next_new-z.ensures (omega (arith, c.if-t-z.false)) c.add_edge-s.ensures c.if-tripped.false
+pub returns : goal.returns
+returns c =
+    adding-done _ _ _ c.loop-z.invariant c.in_default.ensures

@@ -1,12 +1,13 @@
-use Prim.Native.Nat.{◌-◌, ◌≤◌}
-use Rattle.deck.specs.Content.{deck_of}
 use lib.ListN.{drop}
-use Rattle.model.specs.Closing.{close_axiom, Ready}
-use Rattle.build.proofs.OnLaws.{OnEdges}
+use Rattle.build.specs.Building.{deck_in}
+use Rattle.model.specs.Closing.{close_axiom, Closes}
+use Rattle.model.proofs.EdgeSteps.{OnBuild}
 use Rattle.model.proofs.closing.close_pass.Given as goal
 
 abbrev pub invariant-loop-i : goal.invariant-loop-i
-invariant-loop-i l = (l.i ≤ l.count) × (OnEdges l.limit (close_axiom (deck_of l.deck) l.initial.held.elements l.limit) (deck_of l.deck).axioms (drop l.i (deck_of l.deck).axioms) l.initial.edges l.initial.log l.initial.held l.edges l.log l.held × Ready l.deck l.limit l.edges l.held)
-
-abbrev pub decreases-loop-i : goal.decreases-loop-i
-decreases-loop-i l = l.count - l.i
+invariant-loop-i l =
+    let S = l.initial.b in
+    record {
+      on : OnBuild S (close_axiom (deck_in S) S.tally.elements S.plan.bounds.max_edges) (deck_in S).axioms (drop l.i (deck_in S).axioms) l.b;
+      closes : Closes l.b;
+    }

@@ -9,11 +9,11 @@ use Rattle.model.proofs.rules.chain_rule.Goals as goal
 pub returns-then-list-ne2 : goal.returns-then-list-ne2
 returns-then-list-ne2 c =
     let l = c.args.list in
-    let h = list_length c.args.deck.now l.start l.count in
-    chain-other (list_of c.args.deck.now l) (role_of c.args.v.0) (λ e. c.if-list-ne2.true (omega (arith, h, e)))
+    let h = list_length c.args.deck.now.bytes.now l.start l.count in
+    chain-other (list_of c.args.deck.now.bytes.now l) (role_of c.args.v.0) (λ e. c.if-list-ne2.true (omega (arith, h, e)))
 
 pub returns : goal.returns
 returns c =
     let l = c.args.list in
-    let h = list_length c.args.deck.now l.start l.count in
-    rw (c.item.ensures, c.item-2.ensures) at c.link_rule.ensures ∙ chain-two (list_of c.args.deck.now l) (role_of c.args.v.0) (omega (arith, h, c.if-list-ne2.false))
+    let h = list_length c.args.deck.now.bytes.now l.start l.count in
+    rw (c.item.ensures, c.item-2.ensures) at c.link_rule.ensures ∙ chain-two (list_of c.args.deck.now.bytes.now l) (role_of c.args.v.0) (omega (arith, h, c.if-list-ne2.false))

@@ -3,19 +3,11 @@ use Rattle.model.proofs.WordLaws.{pass_on}
 use mathlib.Core.Path.{ap, ◌∙◌}
 use native.Mathlib.Omega.{arith}
 use Prim.Native.Nat.{ℕ, ◌/◌, ◌%◌, ◌^◌}
-use Rattle.model.proofs.ends.next_new.Goals as goal
+use Rattle.model.proofs.ends.Marks.next_new.Goals as goal
 
 pub loop-i-init : goal.loop-i-init
 loop-i-init c =
     (omega arith, new-start _ _ _)
-
-pub bounds-ahead-j : goal.bounds-ahead-j
-bounds-ahead-j c =
-    omega (arith, c.requires.elements_in_bounds)
-
-pub bounds-known-j : goal.bounds-known-j
-bounds-known-j c =
-    omega (arith, c.requires.elements_in_bounds_2)
 
 pub returns-then-rest-eq1 : goal.returns-then-rest-eq1
 returns-then-rest-eq1 c =
@@ -23,7 +15,7 @@ returns-then-rest-eq1 c =
 
 pub after-i-requires : goal.after-i-requires
 after-i-requires c =
-    omega (arith, c.requires.elements_bound)
+    omega (arith, c.requires)
 
 pub loop-i-smaller : goal.loop-i-smaller
 loop-i-smaller c =
