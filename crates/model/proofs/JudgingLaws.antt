@@ -7,10 +7,7 @@ use native.Mathlib.Omega.{arith}
 use lib.ListN.{length, get_or, take, drop, drop_of_length-le, length-append}
 use lib.Seq.{sets, sets-eq, length-sets, paste, take_all}
 use borrow.Author.Tests.{lt-ltb}
-use Rattle.deck.specs.declared.axioms.AxiomRecord.{AxiomRecord}
-use Rattle.deck.specs.Content.{axiom_of, deck_of}
 use Rattle.deck.specs.Deck.{Deck, Axiom, axiom_at, axiom_count}
-use Rattle.deck.specs.Reads.{AxiomRead}
 use Rattle.eval.specs.declared.verdict.Verdict.{Verdict}
 use Rattle.eval.specs.declared.verdict.Verdict.TheVariants.{Holds, Fails, UnhandledAxiom, UnhandledConcept, GuardedRoleHasEdges}
 use Rattle.eval.specs.declared.verdict.Witnesses.TheVariants.{One, Two, Three}
@@ -36,11 +33,6 @@ put-sets buf xs h = let z : 0 + length xs ≡ length xs = omega arith in rw z at
 pub paste-sets : (buf xs : List ℕ) (i n : ℕ) → length xs ≡ n → i + n ≤ length buf → paste buf i xs n ≡ sets buf i xs
 paste-sets buf xs i n e h =
     ap (λ l. take i buf ++ l ++ drop (i + n) buf) (take_all n xs (omega (arith, e))) ∙ ap (λ m. take i buf ++ xs ++ drop (i + m) buf) (sym e) ∙ sym (sets-eq xs buf i (omega (arith, e, h)))
-
--- two axioms whose records are the same
-pub same-record : (s : List ℕ) (a b : ℕ) {r q : AxiomRecord} → AxiomRead s a r → AxiomRead s b q → r.tag ≡ q.tag → r.first ≡ q.first → r.second ≡ q.second → r.third ≡ q.third → axiom_at (deck_of s) a ≡ axiom_at (deck_of s) b
-same-record s a b {r} {q} R Q t x y z =
-    sym R.is ∙ ap (λ n. axiom_of s n r.first r.second r.third) t ∙ ap (λ n. axiom_of s q.tag n r.second r.third) x ∙ ap (λ n. axiom_of s q.tag q.first n r.third) y ∙ ap (axiom_of s q.tag q.first q.second) z ∙ Q.is
 
 -- a verdict has four words
 pub four-words : (v : Verdict) → get_or (words_of v) 0 0 ∷ get_or (words_of v) 1 0 ∷ get_or (words_of v) 2 0 ∷ get_or (words_of v) 3 0 ∷ [] ≡ words_of v

@@ -1,6 +1,8 @@
 -- The phases one after the other, as the code takes them. Assumes nothing.
 --     later-one … later-four      where the phases after seeding end
---     built-left                  a step that leaves the labels alone
+--     holds-two … holds-four      what each phase leaves of a structure in the making
+--     ready-seeded, seeded-fit    what the phases after seeding need
+--     built-up                    all that is built
 use Prim.Native.Nat.{ℕ, zero, suc, ◌+◌, ◌*◌, ◌<◌, ◌≤◌}
 use mathlib.Core.Bool.{Bool, true, false, cond}
 use mathlib.Core.Path.{◌≡◌, refl, sym, ap, subst, ◌∙◌}
@@ -10,7 +12,7 @@ use native.Mathlib.Nat.{mul-le-mul_right}
 use native.Mathlib.Omega.{arith}
 use lib.ListN.{length, length-map}
 use lib.Dec.{leb, ltb}
-use borrow.Author.Tests.{le-leb, lt-leb, lt-ltb}
+use borrow.Author.Tests.{le-leb, lt-leb}
 use Rattle.deck.specs.Deck.{Deck, class_count}
 use Rattle.deck.specs.Content.{deck_of}
 use Rattle.eval.specs.Edges.{edges_of, row_of}
@@ -33,7 +35,7 @@ use Rattle.build.specs.Model.{Model, with_state, note_in, Buffers, lent, begun, 
 use Rattle.model.specs.Expand.{expand, expand_in}
 use Rattle.model.specs.Rounds.{expand_from_axioms}
 use Rattle.model.specs.Phases.{phase, seeded, close_in, later_phases, phases, with_dropped, construct, Dropped, Constructed}
-use Rattle.atoms.proofs.RowLaws.{length-rows, rows-put, room-below}
+use Rattle.atoms.proofs.RowLaws.{length-rows, rows-put}
 use Rattle.build.proofs.InternLaws.{by_cond, held-length, held_on}
 use Rattle.build.proofs.SeedLaws.{length-row-label, seeds-wide, seeds-few}
 use Rattle.build.proofs.PushLaws.{left-words, left-edges, left-log, left-count}
@@ -121,9 +123,6 @@ pub begun-seeded : (D : Deck) (L L' : List ℕ) (E : List (List ℕ)) (G : List 
 unfolding seeded edges_of
 begun-seeded D L L' E G n p q = rw (p, q, rows-put (seeds-wide D (floor_label D) (class_count D)) L)
 
-pub seeded-few : (D : Deck) (B : Bounds) (n : ℕ) → n ≡ length (seeds D (floor_label D) (class_count D)) → n ≤ top D B
-seeded-few D B n q = omega (arith, q, seeds-few D (floor_label D) (class_count D), top-classes D B)
-
 -- ---- the same of a structure in the making
 module _ {b : Build} (P : Ready b) (F : b.plan.floor.now ≡ floor_label (deck_in b)) where
   pub holds-two : {b₁ : Build} {r : Bool} → ((d : ℕ) → Holds b b₁ r (expand_in (deck_in b) b.plan.floor.now b.plan.bounds (65536 + d) (model_of b))) → Holds b b₁ r (two (deck_in b) b.plan.bounds (model_of b))
@@ -155,18 +154,7 @@ module _ {b : Build} (P : Ready b) (F : b.plan.floor.now ≡ floor_label (deck_i
           (ap (λ (p : Plan). with_state (begun (deck_of p.deck.bytes.now) (buffers b₂) b₂.tally) (close (deck_of p.deck.bytes.now) b₂.tally.elements p.bounds.max_edges (state_of b₂))) Y.same.plan
           ∙ close-begun (deck_in b) b.plan.bounds (buffers b₂) b₂.tally ∙ ap (close_in (deck_in b) b.plan.bounds) (holds-start Y))
 
--- ---- reason 4
-module _ (D : Deck) (log : List ℕ) (t : Tally) where
-  pub dropped-none : D.dropped ≡ 0 → Dropped D log t log t
-  dropped-none e = record { log_is = rw e; tally = rw e }
-
-  pub dropped-some : {d : ℕ} → d ≡ D.dropped → (d ≡ 0 → ⊥) → {log' : List ℕ} {n : ℕ} → log' ≡ noted log t.reasons (axioms_dropped d) → n ≡ counted t.reasons
-      → Dropped D log t log' (record { elements = t.elements; edges = t.edges; reasons = n })
-  dropped-some {d} e z p q =
-      let h : ltb 0 D.dropped ≡ true = lt-ltb 0 D.dropped (omega (arith, e, z)) in
-      record { log_is = p ∙ rw (h, e); tally = rw (h, q) }
-
--- what it changes
+-- ---- reason 4: what it changes
 module _ (D : Deck) (m : Model) where
   dropped-labels : (with_dropped D m).labels ≡ m.labels
   unfolding with_dropped
@@ -282,14 +270,8 @@ module _ {a b : Build} (F : a.plan.floor.now ≡ floor_label (deck_in a)) (t : a
   pub seeded-fit : EdgesFit (deck_in b) b.tally.elements (edges_of b.edges.now b.tally.edges)
   seeded-fit = rw none_yet_of (none-fit (deck_in b) b.tally.elements b.edges.now)
 
-  pub seeded-floor : b.plan.floor.now ≡ floor_label (deck_in b)
-  seeded-floor = rw S.same.plan F
-
   -- all that is built
   pub built-up : (last : ℕ) {c : Build} {r : Bool} → Holds b c r (later_phases (deck_in b) b.plan.bounds last (model_of b)) → (d : Build) → Dropped (deck_in c) c.log.now c.tally d.log.now d.tally → d.labels ≡ c.labels → d.edges ≡ c.edges
       → Constructed (deck_in a) a.plan.bounds last (buffers a) (buffers d) d.tally
   built-up last {c} X d Z l e =
       rw (l, e) (constructed a.plan.deck.bytes.now a.plan.bounds last (buffers a) seeds-as.0 seeds-as.1 (rw (S.same.plan, S.edges, S.log, none_yet_of) at X.built) (rw (X.same.plan ∙ S.same.plan) at Z))
-
-pub seed-room : (D : Deck) (B : Bounds) {r : ℕ} → (top D B + 1) * label_width D ≤ r → (class_count D + 1) * label_width D ≤ r
-seed-room D B {r} h = room-below (class_count D) (top D B) (label_width D) r (top-classes D B) h

@@ -3,12 +3,12 @@ ghost use Rattle.std.specs.Prelude.{◌≡◌, true, ◌+◌, ◌-◌, ◌*◌, 
 ghost use Rattle.std.proofs.lemmas.List.Edits.{sets};
 ghost use Rattle.deck.specs.Content.{deck_of};
 ghost use Rattle.deck.specs.Deck.{axiom_count, axiom_at};
-ghost use Rattle.eval.specs.Equipped.{Blank, Room};
+ghost use Rattle.eval.specs.Equipped.{Room};
 ghost use Rattle.eval.specs.InLent.{deck_in, structure, Remembered};
 ghost use Rattle.eval.specs.Verdict.{verdict, words_of};
 ghost use Rattle.atoms.specs.Rows.{put};
 ghost use Rattle.model.specs.Outcome.{outcome_of};
-ghost use Rattle.model.specs.Run.{verdicts_in, words_in};
+ghost use Rattle.model.specs.Run.{verdicts_of, words_in};
 
 use crate::outcome::Outcome;
 use deck::Deck;
@@ -58,8 +58,8 @@ fn judge_next(judging: &Judging, memo: &mut [u16], axiom: u32, before: Option<Ve
 fn judge_each(judging: &Judging, memo: &mut [u16], verdicts: &mut [u32]) -> Outcome
     requires remembered { Remembered judging.now.lent memo.old }
     requires deck_in_bounds { 4 * axiom_count (deck_in judging.now.lent) ≤ length verdicts.old }
-    ensures words { verdicts.new ≡ put verdicts.old (words_in (verdicts_in (deck_in judging.now.lent) (structure judging.now.lent))) }
-    ensures worst { result ≡ outcome_of 0 (verdicts_in (deck_in judging.now.lent) (structure judging.now.lent)) }
+    ensures words { verdicts.new ≡ put verdicts.old (words_in (verdicts_of judging.now.lent)) }
+    ensures worst { result ≡ outcome_of 0 (verdicts_of judging.now.lent) }
 {
     let mut worst = Outcome::Confirmed;
     let mut before = None;
@@ -72,28 +72,27 @@ fn judge_each(judging: &Judging, memo: &mut [u16], verdicts: &mut [u32]) -> Outc
     worst
 }
 
-// The same, in a given room for the index and the table of judgements.
-fn judge_over(lent: &Lent, index: &mut [u32], memo: &mut [u16], verdicts: &mut [u32]) -> Outcome
-    requires deck_in_bounds { 4 * axiom_count (deck_in lent.now) ≤ length verdicts.old }
-    requires blank { Blank memo.old }
-    ensures words { verdicts.new ≡ put verdicts.old (words_in (verdicts_in (deck_in lent.now) (structure lent.now))) }
-    ensures worst { result ≡ outcome_of 0 (verdicts_in (deck_in lent.now) (structure lent.now)) }
-{
-    make_index(lent.edges, lent.shape.edges, lent.shape.elements, index);
-    judge_each(&Judging { lent: *lent, index }, memo, verdicts)
-}
-
 // The same in a room of its own, of I words for the index and M for the table: it is made only for a structure that needs it.
 #[inline(never)]
 fn judge_in_room<const I: usize, const M: usize>(lent: &Lent, verdicts: &mut [u32]) -> Outcome
     requires room { Room I M }
     requires deck_in_bounds { 4 * axiom_count (deck_in lent.now) ≤ length verdicts.old }
-    ensures words { verdicts.new ≡ put verdicts.old (words_in (verdicts_in (deck_in lent.now) (structure lent.now))) }
-    ensures worst { result ≡ outcome_of 0 (verdicts_in (deck_in lent.now) (structure lent.now)) }
+    ensures words { verdicts.new ≡ put verdicts.old (words_in (verdicts_of lent.now)) }
+    ensures worst { result ≡ outcome_of 0 (verdicts_of lent.now) }
 {
     let mut index: [u32; I] = [0; I];
     let mut memo: [u16; M] = [0; M];
-    judge_over(lent, &mut index, &mut memo, verdicts)
+    make_index(
+        lent.edges,
+        lent.shape.edges,
+        lent.shape.elements,
+        &mut index,
+    );
+    let judging = Judging {
+        lent: *lent,
+        index: &index,
+    };
+    judge_each(&judging, &mut memo, verdicts)
 }
 
 // Does the least room do? What is judged does not depend on it.
@@ -104,8 +103,8 @@ fn is_tiny(shape: Shape, concepts: u32) -> bool {
 // The words of each axiom's verdict, in order, and the worst of what they come to: in the room that the structure needs.
 pub fn judge_all(lent: &Lent, verdicts: &mut [u32]) -> Outcome
     requires deck_in_bounds { 4 * axiom_count (deck_in lent.now) ≤ length verdicts.old }
-    ensures words { verdicts.new ≡ put verdicts.old (words_in (verdicts_in (deck_in lent.now) (structure lent.now))) }
-    ensures worst { result ≡ outcome_of 0 (verdicts_in (deck_in lent.now) (structure lent.now)) }
+    ensures words { verdicts.new ≡ put verdicts.old (words_in (verdicts_of lent.now)) }
+    ensures worst { result ≡ outcome_of 0 (verdicts_of lent.now) }
 {
     let concepts = lent.deck.concept_count();
     if is_tiny(lent.shape, concepts) {

@@ -2,7 +2,7 @@
 ghost use Rattle.std.specs.Prelude.{◌≡◌, ◌+◌, ◌*◌, ◌<◌, ◌≤◌, length};
 ghost use Rattle.deck.specs.Content.{deck_of};
 ghost use Rattle.deck.specs.Deck.{axiom_count};
-ghost use Rattle.eval.specs.InLent.{deck_in, structure};
+ghost use Rattle.eval.specs.InLent.{deck_in};
 ghost use Rattle.eval.specs.Lent.{label_width, structure_of};
 ghost use Rattle.model.specs.declared.outcome.Outcome.{Outcome};
 ghost use Rattle.build.specs.declared.tally.Tally.{Tally};
@@ -11,7 +11,7 @@ ghost use Rattle.model.specs.Outcome.{outcome_of};
 ghost use Rattle.model.specs.Phases.{number, Constructed};
 ghost use Rattle.atoms.specs.Rows.{put};
 ghost use Rattle.model.specs.Run as spec;
-ghost use Rattle.model.specs.Run.{ran, shape_in, verdicts_in, words_in};
+ghost use Rattle.model.specs.Run.{ran, shape_in, verdicts_of, words_in};
 ghost use Rattle.model.specs.Trust.{Trusted};
 
 use crate::judging::judge_all;
@@ -48,8 +48,8 @@ fn build(task: &Task, labels: &mut [u64], edges: &mut [[u32; 3]], log: &mut [u32
 // The axioms in the structure that was built, and the outcome: open at best where a reason was given.
 fn judge(lent: &Lent, reasons: u32, verdicts: &mut [u32]) -> Outcome
     requires { 4 * axiom_count (deck_in lent.now) ≤ length verdicts.old }
-    ensures outcome { result ≡ outcome_of reasons (verdicts_in (deck_in lent.now) (structure lent.now)) }
-    ensures words { verdicts.new ≡ put verdicts.old (words_in (verdicts_in (deck_in lent.now) (structure lent.now))) }
+    ensures outcome { result ≡ outcome_of reasons (verdicts_of lent.now) }
+    ensures words { verdicts.new ≡ put verdicts.old (words_in (verdicts_of lent.now)) }
 {
     let worst = judge_all(lent, verdicts);
     if reasons == 0 {
