@@ -1,15 +1,13 @@
 -- Judging all axioms: the words stored so far, and what is still to come. Assumes nothing.
 use Prim.Native.Nat.{ℕ, ◌+◌, ◌-◌, ◌*◌, ◌<◌, ◌≤◌}
-use mathlib.Core.Bool.{false, ◌||◌, or-false}
+use mathlib.Core.Bool.{Bool, true, false, ◌||◌}
 use mathlib.Core.Path.{◌≡◌, refl, sym, ap, ◌∙◌}
-use mathlib.Core.List.{List, [], ◌∷◌, map, flat_map}
+use mathlib.Core.List.{List, [], ◌∷◌, ◌++◌, map, flat_map}
 use native.Mathlib.Omega.{arith}
-use lib.ListN.{length, get_or, drop, drop_of_length-le, length-append}
-use lib.Seq.{sets, sets-eq, length-sets}
-use Rattle.deck.specs.declared.axioms.AxiomRecord.{AxiomRecord}
-use Rattle.deck.specs.Content.{axiom_of, deck_of}
+use lib.ListN.{length, get_or, take, drop, drop_of_length-le, length-append}
+use lib.Seq.{sets, sets-eq, length-sets, paste, take_all}
+use borrow.Author.Tests.{lt-ltb}
 use Rattle.deck.specs.Deck.{Deck, Axiom, axiom_at, axiom_count}
-use Rattle.deck.specs.Reads.{AxiomRead}
 use Rattle.eval.specs.declared.verdict.Verdict.{Verdict}
 use Rattle.eval.specs.declared.verdict.Verdict.TheVariants.{Holds, Fails, UnhandledAxiom, UnhandledConcept, GuardedRoleHasEdges}
 use Rattle.eval.specs.declared.verdict.Witnesses.TheVariants.{One, Two, Three}
@@ -17,11 +15,13 @@ use Rattle.eval.specs.Lists.{any}
 use Rattle.eval.specs.Structure.{Structure}
 use Rattle.eval.specs.Verdict.{words_of, verdict}
 use Rattle.eval.proofs.Walks.{list-step}
-use Rattle.model.specs.declared.judging.Judged.{Judged}
+use Rattle.std.specs.Ordering.{ord_max}
+use Rattle.model.specs.contracts.outcome.OutcomeOrd.TheImpl.{cmp-value}
+use Rattle.model.specs.declared.outcome.Outcome.{Outcome}
+use Rattle.model.specs.declared.outcome.Outcome.TheVariants.{Confirmed, Open, Failed}
 use Rattle.atoms.specs.Rows.{put}
-use Rattle.model.specs.Outcome.{is_fails, is_unresolved}
+use Rattle.model.specs.Outcome.{is_fails, is_unresolved, outcome_by, outcome_at, outcome_of}
 use Rattle.model.specs.Run.{verdicts_in, words_in}
-use Rattle.atoms.proofs.MemberLaws.{or_assoc}
 use Rattle.build.proofs.PushLaws.{sets-append}
 
 -- what is put at the start is stored from the start on
@@ -29,10 +29,10 @@ pub put-sets : {A : Type 0} (buf xs : List A) → length xs ≤ length buf → s
 unfolding put
 put-sets buf xs h = let z : 0 + length xs ≡ length xs = omega arith in rw z at (sets-eq xs buf 0 (omega arith))
 
--- two axioms whose records are the same
-pub same-record : (s : List ℕ) (a b : ℕ) {r q : AxiomRecord} → AxiomRead s a r → AxiomRead s b q → r.tag ≡ q.tag → r.first ≡ q.first → r.second ≡ q.second → r.third ≡ q.third → axiom_at (deck_of s) a ≡ axiom_at (deck_of s) b
-same-record s a b {r} {q} R Q t x y z =
-    sym R.is ∙ ap (λ n. axiom_of s n r.first r.second r.third) t ∙ ap (λ n. axiom_of s q.tag n r.second r.third) x ∙ ap (λ n. axiom_of s q.tag q.first n r.third) y ∙ ap (axiom_of s q.tag q.first q.second) z ∙ Q.is
+-- so is what is pasted
+pub paste-sets : (buf xs : List ℕ) (i n : ℕ) → length xs ≡ n → i + n ≤ length buf → paste buf i xs n ≡ sets buf i xs
+paste-sets buf xs i n e h =
+    ap (λ l. take i buf ++ l ++ drop (i + n) buf) (take_all n xs (omega (arith, e))) ∙ ap (λ m. take i buf ++ xs ++ drop (i + m) buf) (sym e) ∙ sym (sets-eq xs buf i (omega (arith, e, h)))
 
 -- a verdict has four words
 pub four-words : (v : Verdict) → get_or (words_of v) 0 0 ∷ get_or (words_of v) 1 0 ∷ get_or (words_of v) 2 0 ∷ get_or (words_of v) 3 0 ∷ [] ≡ words_of v
@@ -44,11 +44,64 @@ four-words (UnhandledAxiom tag part) = refl
 four-words (UnhandledConcept tag) = refl
 four-words (GuardedRoleHasEdges r) = refl
 
-pub stored-words : (was : List ℕ) {now : List ℕ} (n : ℕ) (w : List ℕ) (v : Verdict) → w ≡ words_of v → now ≡ sets was n (get_or w 0 0 ∷ get_or w 1 0 ∷ get_or w 2 0 ∷ get_or w 3 0 ∷ []) → now ≡ sets was n (words_of v)
-stored-words was n w v p q = q ∙ ap (sets was n) (ap (λ (l : List ℕ). get_or l 0 0 ∷ get_or l 1 0 ∷ get_or l 2 0 ∷ get_or l 3 0 ∷ []) p ∙ four-words v)
-
 pub length-words : (v : Verdict) → length (words_of v) ≡ 4
 length-words v = ap length (sym (four-words v))
+
+-- ---- outcomes
+abbrev pub worse : Outcome → Outcome → Outcome
+worse Failed b = Failed
+worse Open Failed = Failed
+worse Open Open = Open
+worse Open Confirmed = Open
+worse Confirmed b = b
+
+-- `max` of their order
+pub worse-max : (a b : Outcome) → ord_max cmp-value.it a b ≡ worse a b
+worse-max Failed Failed = refl
+worse-max Failed Open = refl
+worse-max Failed Confirmed = refl
+worse-max Open Failed = refl
+worse-max Open Open = refl
+worse-max Open Confirmed = refl
+worse-max Confirmed Failed = refl
+worse-max Confirmed Open = refl
+worse-max Confirmed Confirmed = refl
+
+worse-assoc : (a b c : Outcome) → worse (worse a b) c ≡ worse a (worse b c)
+worse-assoc Failed b c = refl
+worse-assoc Open Failed c = refl
+worse-assoc Open Open Failed = refl
+worse-assoc Open Open Open = refl
+worse-assoc Open Open Confirmed = refl
+worse-assoc Open Confirmed c = refl
+worse-assoc Confirmed b c = refl
+
+worse-best : (a : Outcome) → worse a Confirmed ≡ a
+worse-best Failed = refl
+worse-best Open = refl
+worse-best Confirmed = refl
+
+worse-by : (f u g w : Bool) → outcome_by (f || g) (u || w) ≡ worse (outcome_by f u) (outcome_by g w)
+worse-by true u g w = refl
+worse-by false true true w = refl
+worse-by false true false true = refl
+worse-by false true false false = refl
+worse-by false false g w = refl
+
+worse-open : (f u : Bool) → outcome_by f true ≡ worse (outcome_by f u) Open
+worse-open true u = refl
+worse-open false true = refl
+worse-open false false = refl
+
+-- one more verdict
+outcome-more : (v : Verdict) (vs : List Verdict) → outcome_of 0 (v ∷ vs) ≡ worse (outcome_at v) (outcome_of 0 vs)
+unfolding outcome_of any
+outcome-more v vs = worse-by (is_fails v) (is_unresolved v) (any (map is_fails vs)) (any (map is_unresolved vs))
+
+-- a reason beside the verdicts
+pub outcome-reasons : (n : ℕ) (vs : List Verdict) → 0 < n → outcome_of n vs ≡ worse (outcome_of 0 vs) Open
+unfolding outcome_of
+outcome-reasons n vs h = rw (lt-ltb 0 n h) (worse-open (any (map is_fails vs)) (any (map is_unresolved vs)))
 
 module _ (D : Deck) (S : Structure) where
   -- the axiom before the next is this one
@@ -65,21 +118,15 @@ module _ (D : Deck) (S : Structure) where
   rest i = map (verdict D S) (drop i D.axioms)
 
   -- axioms below i are judged
-  pub record Judging (was : List ℕ) (i : ℕ) (now : List ℕ) (j : Judged) : Type 0 where
+  pub record Judging (was : List ℕ) (i : ℕ) (now : List ℕ) (j : Outcome) : Type 0 where
     pub words : put was (words_in (verdicts_in D S)) ≡ sets now (i * 4) (words_in (rest i))
-    pub fails : any (map is_fails (verdicts_in D S)) ≡ (j.fails || any (map is_fails (rest i)))
-    pub unresolved : any (map is_unresolved (verdicts_in D S)) ≡ (j.unresolved || any (map is_unresolved (rest i)))
+    pub worst : outcome_of 0 (verdicts_in D S) ≡ worse j (outcome_of 0 (rest i))
     pub size : length now ≡ length was
 
-  pub judging-start : (was : List ℕ) → 4 * axiom_count D ≤ length was → Judging was 0 was (record { fails = false; unresolved = false })
-  judging-start was h = record {
-    words = sym (put-sets was (words_in (verdicts_in D S)) (omega (arith, length-all D.axioms)));
-    fails = refl;
-    unresolved = refl;
-    size = refl;
-  }
+  pub judging-start : (was : List ℕ) → 4 * axiom_count D ≤ length was → Judging was 0 was Confirmed
+  judging-start was h = record { words = sym (put-sets was (words_in (verdicts_in D S)) (omega (arith, length-all D.axioms))); worst = refl; size = refl }
 
-  module _ {was : List ℕ} {i : ℕ} {now : List ℕ} {j : Judged} (G : Judging was i now j) where
+  module _ {was : List ℕ} {i : ℕ} {now : List ℕ} {j : Outcome} (G : Judging was i now j) where
     none_left : axiom_count D ≤ i → rest i ≡ []
     none_left h = rw (drop_of_length-le D.axioms h)
 
@@ -87,25 +134,20 @@ module _ (D : Deck) (S : Structure) where
     unfolding flat_map
     judged-words h = sym (G.words ∙ ap (λ l. sets now (i * 4) (words_in l)) (none_left h))
 
-    pub judged-fails : axiom_count D ≤ i → j.fails ≡ any (map is_fails (verdicts_in D S))
-    unfolding any
-    judged-fails h = sym (G.fails ∙ ap (λ l. j.fails || any (map is_fails l)) (none_left h) ∙ or-false j.fails)
-
-    pub judged-unresolved : axiom_count D ≤ i → j.unresolved ≡ any (map is_unresolved (verdicts_in D S))
-    unfolding any
-    judged-unresolved h = sym (G.unresolved ∙ ap (λ l. j.unresolved || any (map is_unresolved l)) (none_left h) ∙ or-false j.unresolved)
+    pub judged-worst : axiom_count D ≤ i → j ≡ outcome_of 0 (verdicts_in D S)
+    unfolding outcome_of any
+    judged-worst h = sym (G.worst ∙ ap (λ l. worse j (outcome_of 0 l)) (none_left h) ∙ worse-best j)
 
     module _ (h : i < axiom_count D) (v : Verdict) (p : v ≡ verdict D S (axiom_at D i)) where
       one_left : rest i ≡ v ∷ rest (i + 1)
       one_left = ap (map (verdict D S)) (list-step (Axiom.DeclareClass 0) D.axioms i h) ∙ ap (λ w. w ∷ rest (i + 1)) (sym p)
 
-      pub judging-next : {now' : List ℕ} {j' : Judged} → now' ≡ sets now (i * 4) (words_of v) → j' ≡ record { fails = j.fails || is_fails v; unresolved = j.unresolved || is_unresolved v } → Judging was (i + 1) now' j'
-      unfolding any flat_map
+      pub judging-next : {now' : List ℕ} {j' : Outcome} → now' ≡ sets now (i * 4) (words_of v) → j' ≡ worse j (outcome_at v) → Judging was (i + 1) now' j'
+      unfolding flat_map
       judging-next {now'} {j'} q r =
           let e : i * 4 + length (words_of v) ≡ (i + 1) * 4 = omega (arith, length-words v) in
           record {
             words = G.words ∙ ap (λ l. sets now (i * 4) (words_in l)) one_left ∙ sets-append (words_of v) (words_in (rest (i + 1))) now (i * 4) ∙ ap (λ n. sets (sets now (i * 4) (words_of v)) n (words_in (rest (i + 1)))) e ∙ ap (λ b. sets b ((i + 1) * 4) (words_in (rest (i + 1)))) (sym q);
-            fails = G.fails ∙ ap (λ l. j.fails || any (map is_fails l)) one_left ∙ sym (or_assoc j.fails (is_fails v) (any (map is_fails (rest (i + 1))))) ∙ rw r;
-            unresolved = G.unresolved ∙ ap (λ l. j.unresolved || any (map is_unresolved l)) one_left ∙ sym (or_assoc j.unresolved (is_unresolved v) (any (map is_unresolved (rest (i + 1))))) ∙ rw r;
+            worst = G.worst ∙ ap (λ l. worse j (outcome_of 0 l)) one_left ∙ ap (worse j) (outcome-more v (rest (i + 1))) ∙ sym (worse-assoc j (outcome_at v) (outcome_of 0 (rest (i + 1)))) ∙ rw r;
             size = ap length q ∙ length-sets now (i * 4) (words_of v) ∙ G.size;
           }

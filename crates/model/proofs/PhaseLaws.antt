@@ -1,39 +1,47 @@
 -- The phases one after the other, as the code takes them. Assumes nothing.
 --     later-one … later-four      where the phases after seeding end
---     built-left                  a step that leaves the labels alone
-use Prim.Native.Nat.{ℕ, ◌+◌, ◌*◌, ◌<◌, ◌≤◌}
+--     holds-two … holds-four      what each phase leaves of a structure in the making
+--     ready-seeded, seeded-fit    what the phases after seeding need
+--     built-up                    all that is built
+use Prim.Native.Nat.{ℕ, zero, suc, ◌+◌, ◌*◌, ◌<◌, ◌≤◌}
 use mathlib.Core.Bool.{Bool, true, false, cond}
 use mathlib.Core.Path.{◌≡◌, refl, sym, ap, subst, ◌∙◌}
 use mathlib.Core.List.Memᴰ.{not-nil as nothing-in}
 use mathlib.Core.List.{List, map}
+use native.Mathlib.Nat.{mul-le-mul_right}
 use native.Mathlib.Omega.{arith}
 use lib.ListN.{length, length-map}
 use lib.Dec.{leb, ltb}
-use borrow.Author.Tests.{le-leb, lt-leb, lt-ltb}
+use borrow.Author.Tests.{le-leb, lt-leb}
 use Rattle.deck.specs.Deck.{Deck, class_count}
-use Rattle.deck.specs.Content.{IsAccepted, deck_of}
+use Rattle.deck.specs.Content.{deck_of}
 use Rattle.eval.specs.Edges.{edges_of, row_of}
 use Rattle.eval.specs.Lent.{label_width}
 use Rattle.build.specs.declared.bounds.Bounds.{Bounds}
+use Rattle.build.specs.declared.building.Build.{Build}
+use Rattle.build.specs.declared.plan.Plan.{Plan}
 use Rattle.build.specs.declared.tally.Tally.{Tally}
 use Rattle.build.specs.declared.tally.Step.{Step}
 use Rattle.atoms.specs.Rows.{put, flat}
 use Rattle.build.specs.Intern.{Held}
 use Rattle.atoms.specs.Floor.{floor_label}
-use Rattle.build.specs.Seed.{seeds, Seeded}
+use Rattle.build.specs.Seed.{is_seeded, row_label, seeds, last_label, Seeded}
 use Rattle.atoms.specs.Reasons.{noted, counted, axioms_dropped}
-use Rattle.build.specs.Push.{State, start, stored, Left, Room}
-use Rattle.model.specs.Closing.{close, EdgesFit, Ready}
-use Rattle.build.specs.Model.{Model, with_state, note_in, Buffers, lent, begun, among, top, Prepared, Built}
+use Rattle.build.specs.Push.{State, start, stored, Room}
+use Rattle.build.specs.Building.{deck_in, buffers, model_of, model_by, state_of, Ready, Seeds, Pushed, Holds}
+use Rattle.model.specs.Closing as closing
+use Rattle.model.specs.Closing.{close, EdgesFit}
+use Rattle.build.specs.Model.{Model, with_state, note_in, Buffers, lent, begun, among, top, Built}
 use Rattle.model.specs.Expand.{expand, expand_in}
 use Rattle.model.specs.Rounds.{expand_from_axioms}
 use Rattle.model.specs.Phases.{phase, seeded, close_in, later_phases, phases, with_dropped, construct, Dropped, Constructed}
-use Rattle.atoms.proofs.RowLaws.{length-rows, rows-put, room-below}
-use Rattle.build.proofs.InternLaws.{held_start, held_on}
-use Rattle.build.proofs.SeedLaws.{seeds-wide, seeds-few}
+use Rattle.atoms.proofs.RowLaws.{length-rows, rows-put}
+use Rattle.build.proofs.InternLaws.{by_cond, held-length, held_on}
+use Rattle.build.proofs.SeedLaws.{length-row-label, seeds-wide, seeds-few}
 use Rattle.build.proofs.PushLaws.{left-words, left-edges, left-log, left-count}
 use Rattle.model.proofs.JudgingLaws.{put-sets}
-use Rattle.build.proofs.BuildLaws.{all_fit, left-among, top-classes, built-is, built-trans, built-start, built-quiet, built-count, prepared-after}
+use Rattle.build.proofs.BuildLaws.{top-classes, built-is, built-count, prepared-after}
+use Rattle.build.proofs.BuildingLaws.{holds-is, holds-trans, holds-pushed, holds-start, ready-after}
 use Rattle.model.proofs.TidyLaws.{tidy-floor}
 use Rattle.model.proofs.KeepLaws.{kept_trans}
 use Rattle.model.proofs.ExpandKeeps.{expand-kept}
@@ -104,20 +112,6 @@ module _ (D : Deck) (B : Bounds) (last : ℕ) (m : Model) (w : m.state.tripped �
       pub later-four : 4 ≤ last → (three D B m).state.tripped ≡ false → later_phases D B last m ≡ close_in D B (three D B m)
       later-four l v = after-three ∙ phase-on 4 last (close_in D B) (three D B m) l v
 
--- ---- a step that leaves the labels alone
-pub built-left : {s : List ℕ} {B : Bounds} {b : Buffers} {t : Tally} {floor label : List ℕ} → Prepared s B b t floor label → {E' : List (List ℕ)} {G' : List ℕ} {r : Step} {u : State}
-    → Left B.max_edges b.edges b.log t E' G' r u → Built (deck_of s) B b t (lent b.labels E' G') label r (with_state (begun (deck_of s) b t) u)
-built-left {s} {B} {b} {t} P {r = r} L =
-    let k : r.tally.elements ≡ t.elements = L.elements in
-    record {
-      held = rw k (held_start (label_width (deck_of s)) t.elements b.labels (all_fit P));
-      left = rw k (left-among L t.elements);
-      more = omega (arith, k);
-      most = omega (arith, k, P.few);
-      few = λ e. omega (arith, k, P.few);
-      wide = P.label-wide;
-    }
-
 -- closing, over as many elements as there are labels
 pub close-begun : (D : Deck) (B : Bounds) (b : Buffers) (t : Tally) → with_state (begun D b t) (close D t.elements B.max_edges (start b.edges b.log t)) ≡ close_in D B (begun D b t)
 unfolding close_in
@@ -129,51 +123,38 @@ pub begun-seeded : (D : Deck) (L L' : List ℕ) (E : List (List ℕ)) (G : List 
 unfolding seeded edges_of
 begun-seeded D L L' E G n p q = rw (p, q, rows-put (seeds-wide D (floor_label D) (class_count D)) L)
 
-pub seeded-few : (D : Deck) (B : Bounds) (n : ℕ) → n ≡ length (seeds D (floor_label D) (class_count D)) → n ≤ top D B
-seeded-few D B n q = omega (arith, q, seeds-few D (floor_label D) (class_count D), top-classes D B)
-
--- ---- the same of what the buffers hold
-module _ {s : List ℕ} {B : Bounds} {b : Buffers} {t : Tally} {floor label : List ℕ} (P : Prepared s B b t floor label) (F : floor ≡ floor_label (deck_of s)) where
-  abbrev D : Deck
-  D = deck_of s
-
-  abbrev m : Model
-  m = begun D b t
-
-  pub built-two : {b₁ : Buffers} {l₁ : List ℕ} {r : Step} → ((d : ℕ) → Built D B b t b₁ l₁ r (expand_in D floor B (65536 + d) m)) → Built D B b t b₁ l₁ r (two D B m)
+-- ---- the same of a structure in the making
+module _ {b : Build} (P : Ready b) (F : b.plan.floor.now ≡ floor_label (deck_in b)) where
+  pub holds-two : {b₁ : Build} {r : Bool} → ((d : ℕ) → Holds b b₁ r (expand_in (deck_in b) b.plan.floor.now b.plan.bounds (65536 + d) (model_of b))) → Holds b b₁ r (two (deck_in b) b.plan.bounds (model_of b))
   unfolding expand
-  built-two {b₁} {l₁} {r} X = subst (λ (f : List ℕ). Built D B b t b₁ l₁ r (expand_in D f B 65536 m)) F (X 0)
+  holds-two {b₁} {r} X = subst (λ (f : List ℕ). Holds b b₁ r (expand_in (deck_in b) f b.plan.bounds 65536 (model_of b))) F (X 0)
 
-  module _ {b₁ : Buffers} {l₁ : List ℕ} {r : Step} (X : Built D B b t b₁ l₁ r (two D B m)) (w : r.tripped ≡ false) where
-    pub built-three : {b₂ : Buffers} {l₂ : List ℕ} {u : Step} → Built D B b₁ r.tally b₂ l₂ u (expand_from_axioms D floor B (begun D b₁ r.tally)) → Built D B b t b₂ l₂ u (three D B m)
-    built-three Y = built-is (built-trans (built-quiet X w) Y) (ap (λ (f : List ℕ). expand_from_axioms D f B (begun D b₁ r.tally)) F ∙ ap (expand_from_axioms D (floor_label D) B) (built-start X w))
+  module _ {b₁ : Build} (X : Holds b b₁ false (two (deck_in b) b.plan.bounds (model_of b))) where
+    pub holds-three : {b₂ : Build} {r : Bool} → Holds b₁ b₂ r (expand_from_axioms (deck_in b₁) b₁.plan.floor.now b₁.plan.bounds (model_of b₁)) → Holds b b₂ r (three (deck_in b) b.plan.bounds (model_of b))
+    holds-three Y =
+        holds-is (holds-trans X Y)
+        (ap (λ (p : Plan). expand_from_axioms (deck_of p.deck.bytes.now) p.floor.now p.bounds (begun (deck_of p.deck.bytes.now) (buffers b₁) b₁.tally)) X.same.plan
+        ∙ ap (λ (f : List ℕ). expand_from_axioms (deck_in b) f b.plan.bounds (model_by b b₁)) F ∙ ap (expand_from_axioms (deck_in b) (floor_label (deck_in b)) b.plan.bounds) (holds-start X))
 
-    module _ {b₂ : Buffers} {l₂ : List ℕ} {u : Step} (Y : Built D B b t b₂ l₂ u (three D B m)) (v : u.tripped ≡ false) where
+    module _ {b₂ : Build} (Y : Holds b b₂ false (three (deck_in b) b.plan.bounds (model_of b))) where
       -- what closing needs
-      pub ready-three : EdgesFit D t.elements (edges_of b.edges t.edges) → Ready s B.max_edges b₂.edges u.tally
+      pub ready-three : EdgesFit (deck_in b) b.tally.elements (edges_of b.edges.now b.tally.edges) → closing.Ready b₂.plan.deck.bytes.now b₂.plan.bounds.max_edges b₂.edges.now b₂.tally
       ready-three fits =
-          let Q = prepared-after P Y v in
-          let W = sound s P.accepted in
-          let K = kept_trans (expand-kept D W (floor_label D) (tidy-floor D W) B m) (axioms-kept D W (floor_label D) (tidy-floor D W) B (two D B m)) in
-          let f = K.fits (rw (length-rows (label_width D) t.elements b.labels) fits) in
-          record { accepted = P.accepted; few = omega (arith, Q.few, Q.most); space = Q.space; fits = rw (← built-count Y, left-edges Y.left) f }
+          let D = deck_in b in
+          let B = b.plan.bounds in
+          let Q = prepared-after P Y.built refl in
+          let W = sound b.plan.deck.bytes.now P.accepted in
+          let K = kept_trans (expand-kept D W (floor_label D) (tidy-floor D W) B (model_of b)) (axioms-kept D W (floor_label D) (tidy-floor D W) B (two D B (model_of b))) in
+          let f = K.fits (rw (length-rows (label_width D) b.tally.elements b.labels.now) fits) in
+          rw Y.same.plan (record { accepted = P.accepted; few = omega (arith, Q.few, Q.most); space = Q.space; fits = rw (← built-count Y.built, left-edges Y.built.left) f })
 
-      pub built-four : {E' : List (List ℕ)} {G' : List ℕ} {z : Step} → Left B.max_edges b₂.edges b₂.log u.tally E' G' z (close D u.tally.elements B.max_edges (start b₂.edges b₂.log u.tally))
-          → Built D B b t (lent b₂.labels E' G') l₂ z (close_in D B (three D B m))
-      built-four L = built-is (built-trans (built-quiet Y v) (built-left (prepared-after P Y v) L)) (close-begun D B b₂ u.tally ∙ ap (close_in D B) (built-start Y v))
+      pub holds-four : {b₃ : Build} {r : Bool} → Pushed b₂ b₃ r (close (deck_in b₂) b₂.tally.elements b₂.plan.bounds.max_edges (state_of b₂)) → Holds b b₃ r (close_in (deck_in b) b.plan.bounds (three (deck_in b) b.plan.bounds (model_of b)))
+      holds-four Q =
+          holds-is (holds-trans Y (holds-pushed (ready-after P Y) Q))
+          (ap (λ (p : Plan). with_state (begun (deck_of p.deck.bytes.now) (buffers b₂) b₂.tally) (close (deck_of p.deck.bytes.now) b₂.tally.elements p.bounds.max_edges (state_of b₂))) Y.same.plan
+          ∙ close-begun (deck_in b) b.plan.bounds (buffers b₂) b₂.tally ∙ ap (close_in (deck_in b) b.plan.bounds) (holds-start Y))
 
--- ---- reason 4
-module _ (D : Deck) (log : List ℕ) (t : Tally) where
-  pub dropped-none : D.dropped ≡ 0 → Dropped D log t log t
-  dropped-none e = record { log_is = rw e; tally = rw e }
-
-  pub dropped-some : {d : ℕ} → d ≡ D.dropped → (d ≡ 0 → ⊥) → {log' : List ℕ} {n : ℕ} → log' ≡ noted log t.reasons (axioms_dropped d) → n ≡ counted t.reasons
-      → Dropped D log t log' (record { elements = t.elements; edges = t.edges; reasons = n })
-  dropped-some {d} e z p q =
-      let h : ltb 0 D.dropped ≡ true = lt-ltb 0 D.dropped (omega (arith, e, z)) in
-      record { log_is = p ∙ rw (h, e); tally = rw (h, q) }
-
--- what it changes
+-- ---- reason 4: what it changes
 module _ (D : Deck) (m : Model) where
   dropped-labels : (with_dropped D m).labels ≡ m.labels
   unfolding with_dropped
@@ -263,24 +244,34 @@ pub none-fit : (D : Deck) (n : ℕ) (rows : List (List ℕ)) → EdgesFit D n (e
 unfolding EdgesFit edges_of
 none-fit D n rows e i = absurd (nothing-in i)
 
+-- the label in the making keeps its width
+last-wide : (D : Deck) (floor l : List ℕ) → length l ≡ label_width D → (k : ℕ) → length (last_label D floor l k) ≡ label_width D
+unfolding last_label
+last-wide D floor l w zero = w
+last-wide D floor l w (suc k) = by_cond (λ (x : List ℕ). length x ≡ label_width D) (is_seeded D k) (row_label D floor k) (last_label D floor l k) (length-row-label D floor k) (last-wide D floor l w k)
+
 -- what the phases after seeding need
-pub prepared-seeded : {s : List ℕ} {B : Bounds} {L : List ℕ} {E : List (List ℕ)} {G floor label : List ℕ} {n : ℕ} → IsAccepted s → n ≡ length (seeds (deck_of s) (floor_label (deck_of s)) (class_count (deck_of s)))
-    → top (deck_of s) B < 65536 → (top (deck_of s) B + 1) * label_width (deck_of s) ≤ length L → Room B.max_edges E 0 → length floor ≡ label_width (deck_of s) → length label ≡ label_width (deck_of s)
-    → Prepared s B (lent L E G) (record { elements = n; edges = 0; reasons = 0 }) floor label
-prepared-seeded {s} {B} {n = n} A q m r R f l = record { accepted = A; few = seeded-few (deck_of s) B n q; most = m; rows = r; space = R; floor-wide = f; label-wide = l }
+module _ {a b : Build} (F : a.plan.floor.now ≡ floor_label (deck_in a)) (t : a.tally ≡ record { elements = 0; edges = 0; reasons = 0 }) (S : Seeds a b) where
+  seeds-as : (b.labels.now ≡ put a.labels.now (flat (seeds (deck_in a) (floor_label (deck_in a)) (class_count (deck_in a))))) × (b.tally.elements ≡ length (seeds (deck_in a) (floor_label (deck_in a)) (class_count (deck_in a))))
+  seeds-as = seeded-as (deck_in a) F S.seeded
 
-pub seed-room : (D : Deck) (B : Bounds) {r : ℕ} → (top D B + 1) * label_width D ≤ r → (class_count D + 1) * label_width D ≤ r
-seed-room D B {r} h = room-below (class_count D) (top D B) (label_width D) r (top-classes D B) h
+  none_yet_of : b.tally ≡ record { elements = b.tally.elements; edges = 0; reasons = 0 }
+  none_yet_of = S.tally ∙ ap (among b.tally.elements) t
 
--- the tally that seeding leaves of an empty one
-pub seed-tally : {t t₀ : Tally} → t ≡ among t.elements t₀ → t₀ ≡ record { elements = 0; edges = 0; reasons = 0 } → t ≡ record { elements = t.elements; edges = 0; reasons = 0 }
-seed-tally {t} p q = p ∙ ap (among t.elements) q
+  pub ready-seeded : length a.label.now ≡ label_width (deck_in a) → top (deck_in a) a.plan.bounds < 65536 → (top (deck_in a) a.plan.bounds + 1) * label_width (deck_in a) ≤ length a.labels.now → Room a.plan.bounds.max_edges a.edges.now 0 → Ready b
+  ready-seeded w m r R =
+      let D = deck_in a in
+      let H : Held (label_width D) a.labels.now b.labels.now b.tally.elements (seeds D (floor_label D) (class_count D)) = record { is = seeds-as.0; count = seeds-as.1; wide = seeds-wide D (floor_label D) (class_count D) } in
+      let f : b.tally.elements ≤ top D a.plan.bounds = omega (arith, seeds-as.1, seeds-few D (floor_label D) (class_count D), top-classes D a.plan.bounds) in
+      let z : length b.labels.now ≡ length a.labels.now = held-length H (omega (arith, r, mul-le-mul_right {m = b.tally.elements} {n = top D a.plan.bounds + 1} (label_width D) (omega (arith, f)))) in
+      rw (S.same.plan, S.edges, ap (λ (x : Tally). x.edges) none_yet_of)
+      (record { accepted = a.plan.deck.accepted; few = f; most = m; rows = omega (arith, r, z); space = R; floor-wide = a.plan.floor_wide; label-wide = ap length S.seeded.label ∙ last-wide D a.plan.floor.now a.label.now w (class_count D) })
 
-pub later-from : {D : Deck} {B : Bounds} (last : ℕ) {b b' : Buffers} {l : List ℕ} {r : Step} {t t' : Tally} → t ≡ t'
-    → Built D B b t b' l r (later_phases D B last (begun D b t)) → Built D B b t' b' l r (later_phases D B last (begun D b t'))
-later-from {D} {B} last {b} {b'} {l} {r} e X = subst (λ (t : Tally). Built D B b t b' l r (later_phases D B last (begun D b t))) e X
+  pub seeded-fit : EdgesFit (deck_in b) b.tally.elements (edges_of b.edges.now b.tally.edges)
+  seeded-fit = rw none_yet_of (none-fit (deck_in b) b.tally.elements b.edges.now)
 
--- whether a step tripped, told by a test
-pub built-flag : {D : Deck} {B : Bounds} {b b' : Buffers} {l : List ℕ} {t u : Tally} {m : Model} {v w : Bool} → v ≡ w
-    → Built D B b t b' l (record { tally = u; tripped = v }) m → Built D B b t b' l (record { tally = u; tripped = w }) m
-built-flag {D} {B} {b} {b'} {l} {t} {u} {m} e X = subst (λ (w : Bool). Built D B b t b' l (record { tally = u; tripped = w }) m) e X
+  -- all that is built
+  pub built-up : (last : ℕ) {c : Build} {r : Bool} → Holds b c r (later_phases (deck_in b) b.plan.bounds last (model_of b)) → (d : Build) → Dropped (deck_in c) c.log.now c.tally d.log.now d.tally → d.labels ≡ c.labels → d.edges ≡ c.edges
+      → Constructed (deck_in a) a.plan.bounds last (buffers a) (buffers d) d.tally
+  built-up last {c} X d Z l e =
+      rw (l, e) (constructed a.plan.deck.bytes.now a.plan.bounds last (buffers a) seeds-as.0 seeds-as.1 (rw (S.same.plan, S.edges, S.log, none_yet_of) at X.built) (rw (X.same.plan ∙ S.same.plan) at Z))

@@ -23,6 +23,10 @@ is_unresolved (GuardedRoleHasEdges r) = true
 abbrev pub outcome_by : Bool → Bool → Outcome
 outcome_by fails open-too = cond fails Failed (cond open-too Open Confirmed)
 
+-- what one verdict comes to
+abbrev pub outcome_at : Verdict → Outcome
+outcome_at v = outcome_by (is_fails v) (is_unresolved v)
+
 -- "failed if an axiom Fails, else open if a reason or an unresolved verdict exists, else confirmed, an empty structure included"
 unfoldable pub outcome_of : ℕ → List Verdict → Outcome
 outcome_of reasons vs = outcome_by (any (map is_fails vs)) (ltb 0 reasons || any (map is_unresolved vs))

@@ -1,5 +1,7 @@
 -- The four phases: document 01, section 3, "The sequence 1 seed, 2 expand, 3 axioms, 4 closing is ours".
-use Rattle.std.specs.Prelude.{ℕ, ◌+◌, ◌≤◌, ◌≡◌, false, cond, List, [], map, length, leb, ltb}
+use Rattle.std.specs.Prelude.{ℕ, ◌+◌, ◌≤◌, ◌≡◌, false, cond, ◌&&◌, List, [], map, length, leb, ltb, Result, Ok, Err}
+use Rattle.deck.specs.declared.refusal.Refusal.{Refusal}
+use Rattle.deck.specs.declared.refusal.Refusal.TheVariants.{BadBounds}
 use Rattle.deck.specs.Deck.{Deck, class_count}
 use Rattle.eval.specs.Edges.{row_of}
 use Rattle.build.specs.declared.bounds.Bounds.{Bounds}
@@ -8,10 +10,24 @@ use Rattle.atoms.specs.Rows.{put, flat}
 use Rattle.atoms.specs.Floor.{floor_label}
 use Rattle.build.specs.Seed.{seeds}
 use Rattle.atoms.specs.Reasons.{axioms_dropped, noted, counted}
+use Rattle.model.specs.declared.phases.Phase.{Phase}
+use Rattle.model.specs.declared.phases.Phase.TheVariants.{Seed, Expand, Axioms, Close}
 use Rattle.model.specs.Closing.{close}
 use Rattle.build.specs.Model.{Model, with_state, note_in, Buffers, top}
 use Rattle.model.specs.Expand.{expand}
 use Rattle.model.specs.Rounds.{expand_from_axioms}
+
+-- the numbers of the phases
+abbrev pub number : Phase → ℕ
+number Seed = 1
+number Expand = 2
+number Axioms = 3
+number Close = 4
+
+-- what is read from a number: the phase that has it, or refusal 8, "last phase not 1 to 4"
+abbrev pub ReadAs : ℕ → Result Phase Refusal → Type 0
+ReadAs n (Ok p) = number p ≡ n
+ReadAs n (Err r) = (r ≡ BadBounds) × ((leb 1 n && leb n 4) ≡ false)
 
 -- a phase by its number: "`last phase` stops after it; a tripped bound skips what follows"
 unfoldable pub phase : ℕ → ℕ → (Model → Model) → Model → Model

@@ -11,10 +11,12 @@ use Rattle.deck.specs.Records.{deck_answer}
 use Rattle.deck.specs.Deck.{Deck, axiom_count}
 use Rattle.deck.specs.Content.{deck_of}
 use Rattle.eval.specs.declared.shape.Shape.{Shape}
+use Rattle.eval.specs.declared.lent.Lent.{Lent}
 use Rattle.eval.specs.declared.verdict.Verdict.{Verdict}
 use Rattle.eval.specs.Edges.{row_of}
 use Rattle.eval.specs.Structure.{Structure}
 use Rattle.eval.specs.Lent.{label_width, structure_of}
+use Rattle.eval.specs.InLent.{deck_in, structure}
 use Rattle.eval.specs.Verdict.{words_of, verdict}
 use Rattle.build.specs.declared.bounds.Bounds.{Bounds}
 use Rattle.build.specs.declared.tally.Tally.{Tally}
@@ -58,6 +60,10 @@ shape_in t = record { elements = t.elements; edges = t.edges }
 -- "Axioms are judged in every case"
 abbrev pub verdicts_in : Deck → Structure → List Verdict
 verdicts_in D S = map (verdict D S) D.axioms
+
+-- the same of a deck and structure that are lent
+abbrev pub verdicts_of : Lent → List Verdict
+verdicts_of l = verdicts_in (deck_in l) (structure l)
 
 abbrev pub words_in : List Verdict → List ℕ
 words_in vs = flat_map words_of vs

@@ -1,213 +1,112 @@
-// The phases of a run: 1 seed, 2 expand, 3 axioms, 4 closing. Each is lent the tally, and alters it.
-ghost use Rattle.std.specs.Prelude.{◌≡◌, ℕ, ◌+◌, ◌*◌, ◌<◌, ◌≤◌, length};
-ghost use Rattle.deck.specs.Content.{IsAccepted, deck_of};
-ghost use Rattle.deck.specs.Deck.{class_count};
+// The phases of a run.
+ghost use Rattle.std.specs.Prelude.{◌≡◌, ◌+◌, ◌*◌, ◌<◌, ◌≤◌, length, is_err};
 ghost use Rattle.eval.specs.Edges.{edges_of};
 ghost use Rattle.eval.specs.Lent.{label_width};
-ghost use Rattle.model.specs.Closing.{EdgesFit, Ready, close};
-ghost use Rattle.model.specs.Expand.{expand_in};
+ghost use Rattle.deck.specs.Content.{deck_of};
+ghost use Rattle.model.specs.Closing.{EdgesFit};
 ghost use Rattle.atoms.specs.Floor.{floor_label};
-ghost use Rattle.build.specs.Model.{among, lent, begun, top, Prepared, Built};
-ghost use Rattle.build.specs.Push.{Left, Room, start};
-ghost use Rattle.model.specs.Phases.{later_phases, Dropped, Constructed};
-ghost use Rattle.model.specs.Rounds.{expand_from_axioms};
-ghost use Rattle.build.specs.Seed.{Seeded};
+ghost use Rattle.build.specs.Building.{Ready, Same, Holds, deck_in, model_of};
+ghost use Rattle.build.specs.Model.{lent, top};
+ghost use Rattle.build.specs.Push.{Room};
+ghost use Rattle.model.specs.Phases.{number, ReadAs, later_phases, Dropped, Constructed};
 
-use crate::closing::close_lent;
-use crate::expand::expand;
-use crate::rounds::expand_from_axioms;
-use atoms::bytes::compute_top_floor;
-use atoms::reasons::{Reason, note};
-use build::bounds::Bounds;
-use build::seed::seed;
-use build::tally::{Step, Tally};
-use deck::facts::dropped_count;
+use crate::adapters::{close_chains_and_transitivity, expand, expand_from_axioms};
+use atoms::reasons::Reason;
+use build::building::{Build, Tripped};
+use build::plan::Plan;
+use build::tally::Tally;
+use deck::refusal::Refusal;
 
-// Nothing yet.
-fn no_tally() -> Tally
-    ensures { result ≡ record { elements = 0; edges = 0; reasons = 0 } }
-{
-    Tally {
-        elements: 0,
-        edges: 0,
-        reasons: 0,
+// By their numbers, in the order in which they come.
+#[derive(Clone, Copy, Debug, PartialEq, Eq, PartialOrd, Ord)]
+pub enum Phase {
+    Seed = 1,
+    Expand,
+    Axioms,
+    Close,
+}
+
+impl TryFrom<u32> for Phase {
+    type Error = Refusal;
+
+    ghost try_from_gives = { ReadAs };
+
+    fn try_from(number: u32) -> Result<Phase, Refusal> {
+        match number {
+            1 => Ok(Phase::Seed),
+            2 => Ok(Phase::Expand),
+            3 => Ok(Phase::Axioms),
+            4 => Ok(Phase::Close),
+            _ => Err(Refusal::BadBounds),
+        }
     }
 }
 
-// The tally with another number of elements.
-fn with_elements(t: Tally, elements: u32) -> Tally
-    ensures { result ≡ among elements t }
+// The phases after seeding, as far as the last; a bound that trips skips what follows.
+fn later_phases(b: &mut Build<'_, '_>, last: Phase) -> Result<(), Tripped>
+    requires ready { Ready b.old }
+    requires edges_fit { EdgesFit (deck_in b.old) b.old.tally.elements (edges_of b.old.edges.now b.old.tally.edges) }
+    requires floor { b.old.plan.floor.now ≡ floor_label (deck_in b.old) }
+    ensures { Holds b.old b.new (is_err result) (later_phases (deck_in b.old) b.old.plan.bounds (number last) (model_of b.old)) }
 {
-    t.with_elements(elements)
-}
-
-// The tally that a step left.
-fn tally_of(s: Step) -> Tally
-    ensures { result ≡ s.tally }
-{
-    let t = s.tally;
-    t
-}
-
-// Whether a step tripped a bound.
-fn has_tripped(s: Step) -> bool
-    ensures { result ≡ s.tripped }
-{
-    s.tripped
-}
-
-// 1 seed: the tally is lent, and its elements are the seeds.
-fn seed_phase(deck: &[u8], floor: &[u64], label: &mut [u64], labels: &mut [u64], tally: &mut Tally)
-    requires accepted { IsAccepted deck.now }
-    requires floor_len { length floor.now ≡ label_width (deck_of deck.now) }
-    requires label_len { length label.old ≡ label_width (deck_of deck.now) }
-    requires deck_in_bounds { (class_count (deck_of deck.now) + 1) * label_width (deck_of deck.now) ≤ length labels.old }
-    ensures seeded { Seeded (deck_of deck.now) floor.now label.old label.new labels.old labels.new tally.new.elements }
-    ensures tally_after { tally.new ≡ among tally.new.elements tally.old }
-{
-    let elements = seed(deck, floor, label, labels);
-    let t = *tally;
-    let next = with_elements(t, elements);
-    *tally = next;
-}
-
-// 2 expand: the tally is lent, and altered; whether a bound tripped.
-fn expand_phase(
-    deck: &[u8],
-    bounds: Bounds,
-    floor: &[u64],
-    label: &mut [u64],
-    labels: &mut [u64],
-    edges: &mut [[u32; 3]],
-    log: &mut [u32],
-    tally: &mut Tally,
-) -> bool
-    requires { Prepared deck.now bounds (lent labels.old edges.old log.old) tally.old floor.now label.old }
-    ensures { (d : ℕ) → Built (deck_of deck.now) bounds (lent labels.old edges.old log.old) tally.old (lent labels.new edges.new log.new) label.new (record { tally = tally.new; tripped = result })
-        (expand_in (deck_of deck.now) floor.now bounds (65536 + d) (begun (deck_of deck.now) (lent labels.old edges.old log.old) tally.old)) }
-{
-    let t = *tally;
-    let s = expand(deck, bounds, floor, label, labels, edges, log, t);
-    let next = tally_of(s);
-    *tally = next;
-    has_tripped(s)
-}
-
-// 3 axioms: the tally is lent, and altered; whether a bound tripped.
-fn axioms_phase(
-    deck: &[u8],
-    bounds: Bounds,
-    floor: &[u64],
-    label: &mut [u64],
-    labels: &mut [u64],
-    edges: &mut [[u32; 3]],
-    log: &mut [u32],
-    tally: &mut Tally,
-) -> bool
-    requires { Prepared deck.now bounds (lent labels.old edges.old log.old) tally.old floor.now label.old }
-    ensures { Built (deck_of deck.now) bounds (lent labels.old edges.old log.old) tally.old (lent labels.new edges.new log.new) label.new (record { tally = tally.new; tripped = result })
-        (expand_from_axioms (deck_of deck.now) floor.now bounds (begun (deck_of deck.now) (lent labels.old edges.old log.old) tally.old)) }
-{
-    let t = *tally;
-    let s = expand_from_axioms(deck, bounds, floor, label, labels, edges, log, t);
-    let next = tally_of(s);
-    *tally = next;
-    has_tripped(s)
-}
-
-// 4 closing: the tally is lent, and altered; whether the edge bound tripped.
-fn closing_phase(
-    deck: &[u8],
-    bounds: Bounds,
-    edges: &mut [[u32; 3]],
-    log: &mut [u32],
-    tally: &mut Tally,
-) -> bool
-    requires { Ready deck.now bounds.max_edges edges.old tally.old }
-    ensures { Left bounds.max_edges edges.old log.old tally.old edges.new log.new (record { tally = tally.new; tripped = result })
-        (close (deck_of deck.now) tally.old.elements bounds.max_edges (start edges.old log.old tally.old)) }
-{
-    let t = *tally;
-    let s = close_lent(deck, bounds, edges, log, t);
-    let next = tally_of(s);
-    *tally = next;
-    has_tripped(s)
-}
-
-// Phases 2 to 4, as far as the last; a bound that trips skips what follows.
-fn later_phases(
-    deck: &[u8],
-    bounds: Bounds,
-    floor: &[u64],
-    label: &mut [u64],
-    labels: &mut [u64],
-    edges: &mut [[u32; 3]],
-    log: &mut [u32],
-    tally: &mut Tally,
-    last_phase: u32,
-) -> bool
-    requires prepared { Prepared deck.now bounds (lent labels.old edges.old log.old) tally.old floor.now label.old }
-    requires edges_fit { EdgesFit (deck_of deck.now) tally.old.elements (edges_of edges.old tally.old.edges) }
-    requires floor_value { floor.now ≡ floor_label (deck_of deck.now) }
-    ensures { Built (deck_of deck.now) bounds (lent labels.old edges.old log.old) tally.old (lent labels.new edges.new log.new) label.new (record { tally = tally.new; tripped = result })
-        (later_phases (deck_of deck.now) bounds last_phase (begun (deck_of deck.now) (lent labels.old edges.old log.old) tally.old)) }
-{
-    if last_phase < 2 {
-        return false;
+    if last < Phase::Expand {
+        return Ok(());
     }
-    if expand_phase(deck, bounds, floor, label, labels, edges, log, tally) {
-        return true;
+    expand(b)?;
+    if last < Phase::Axioms {
+        return Ok(());
     }
-    if last_phase < 3 {
-        return false;
+    expand_from_axioms(b)?;
+    if last < Phase::Close {
+        return Ok(());
     }
-    if axioms_phase(deck, bounds, floor, label, labels, edges, log, tally) {
-        return true;
-    }
-    if last_phase < 4 {
-        return false;
-    }
-    closing_phase(deck, bounds, edges, log, tally)
+    close_chains_and_transitivity(b)
 }
 
 // Reason 4, given last where axioms were dropped.
-fn note_dropped(deck: &[u8], log: &mut [u32], t: Tally) -> Tally
-    requires { IsAccepted deck.now }
-    ensures { Dropped (deck_of deck.now) log.old t log.new result }
+fn note_dropped(b: &mut Build<'_, '_>)
+    ensures same { Same b.old b.new }
+    ensures dropped { Dropped (deck_in b.old) b.old.log.now b.old.tally b.new.log.now b.new.tally }
+    ensures rest { (b.new.labels ≡ b.old.labels) × (b.new.edges ≡ b.old.edges) }
 {
-    let dropped = dropped_count(deck);
-    if dropped == 0 {
-        return t;
+    let deck = b.plan.deck;
+    let dropped = deck.dropped_count();
+    if dropped != 0 {
+        b.note(Reason::axioms_dropped(dropped));
     }
-    let reason = Reason::axioms_dropped(dropped);
-    let reasons = note(log, t.reasons, reason);
-    t.with_reasons(reasons)
 }
 
-// All that is built: the labels, edges and log, and how much of them is in use.
-pub fn construct(
-    deck: &[u8],
-    bounds: Bounds,
-    last_phase: u32,
-    floor: &mut [u64],
-    label: &mut [u64],
-    labels: &mut [u64],
-    edges: &mut [[u32; 3]],
-    log: &mut [u32],
+// All that is built, in the labels, edges and log; how much of them is in use.
+pub fn construct<'p, 'a>(
+    plan: Plan<'p>,
+    last: Phase,
+    label: &'a mut [u64],
+    labels: &'a mut [u64],
+    edges: &'a mut [[u32; 3]],
+    log: &'a mut [u32],
 ) -> Tally
-    requires accepted { IsAccepted deck.now }
-    requires floor_len { length floor.old ≡ label_width (deck_of deck.now) }
-    requires label_len { length label.old ≡ label_width (deck_of deck.now) }
-    requires bounds_bound { top (deck_of deck.now) bounds < 65536 }
-    requires deck_in_bounds { (top (deck_of deck.now) bounds + 1) * label_width (deck_of deck.now) ≤ length labels.old }
-    requires room { Room bounds.max_edges edges.old 0 }
-    ensures { Constructed (deck_of deck.now) bounds last_phase (lent labels.old edges.old log.old) (lent labels.new edges.new log.new) result }
+    requires floor { plan.floor.now ≡ floor_label (deck_of plan.deck.bytes.now) }
+    requires label_len { length label.old ≡ label_width (deck_of plan.deck.bytes.now) }
+    requires top_bound { top (deck_of plan.deck.bytes.now) plan.bounds < 65536 }
+    requires labels_len { (top (deck_of plan.deck.bytes.now) plan.bounds + 1) * label_width (deck_of plan.deck.bytes.now) ≤ length labels.old }
+    requires room { Room plan.bounds.max_edges edges.old 0 }
+    ensures { Constructed (deck_of plan.entry.deck.bytes.now) plan.entry.bounds (number last) (lent labels.old edges.old log.old) (lent labels.new edges.new log.new) result }
 {
-    compute_top_floor(deck, floor);
-    let mut t = no_tally();
-    seed_phase(deck, floor, label, labels, &mut t);
-    later_phases(
-        deck, bounds, floor, label, labels, edges, log, &mut t, last_phase,
-    );
-    note_dropped(deck, log, t)
+    let mut b = Build {
+        plan,
+        label,
+        labels,
+        edges,
+        log,
+        tally: Tally {
+            elements: 0,
+            edges: 0,
+            reasons: 0,
+        },
+    };
+    b.seed();
+    // A bound that trips is among the reasons.
+    let _ended = later_phases(&mut b, last);
+    note_dropped(&mut b);
+    b.tally
 }

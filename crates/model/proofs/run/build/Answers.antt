@@ -1,15 +1,13 @@
-use mathlib.Core.Path.{sym, ◌∙◌}
-use lib.Seq.{length-take-le}
+use native.Mathlib.Omega.{arith}
+use Rattle.model.proofs.NeedLaws.{bounds-in}
+use Rattle.model.proofs.RunLaws.{top_small}
 use Rattle.model.proofs.run.build.Goals as goal
 
-pub slice_bounds-construct-end : goal.slice_bounds-construct-end
-slice_bounds-construct-end c =
-    sym (length-take-le _ _ c.label_width-width.ensures.1)
+pub construct-requires-clause-top_bound : goal.construct-requires-clause-top_bound
+construct-requires-clause-top_bound c =
+    let T = c.args.task.now in
+    top_small _ T.bounds T.deck.accepted (bounds-in _ _ T.within).elements
 
-pub slice_bounds-construct-end-2 : goal.slice_bounds-construct-end-2
-slice_bounds-construct-end-2 c =
-    sym (length-take-le _ _ c.label_width-width.ensures.1)
-
-pub construct-requires : goal.construct-requires
-construct-requires c =
-    let w = length-take-le _ _ c.label_width-width.ensures.1 ∙ c.label_width-width.ensures.0 in record { accepted = c.requires.accepted; floor_len = w; label_len = w; bounds_bound = c.requires.bounds_bound; deck_in_bounds = c.requires.deck_in_bounds; room = c.requires.room }
+pub construct-requires-clause-room : goal.construct-requires-clause-room
+construct-requires-clause-room c =
+    record { bound = omega arith; room = c.requires.edges_len; most = (bounds-in _ _ c.args.task.now.within).edges }

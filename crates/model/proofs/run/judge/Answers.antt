@@ -1,7 +1,15 @@
+use mathlib.Core.Path.{sym, ◌∙◌}
+use native.Mathlib.Omega.{arith}
+use Rattle.eval.specs.InLent.{deck_in, structure}
+use Rattle.model.specs.Run.{verdicts_in}
 use Rattle.model.specs.Outcome.{outcome_of}
+use Rattle.model.specs.declared.outcome.Outcome.TheVariants.{Open}
+use Rattle.model.proofs.JudgingLaws.{worse-max, outcome-reasons}
 use Rattle.model.proofs.run.judge.Goals as goal
 
-pub returns : goal.returns
-unfolding outcome_of
-returns c =
-    record { value = rw (c.outcome.ensures, c.judge_axioms-judged.ensures.fails, c.judge_axioms-judged.ensures.unresolved); verdicts_after = c.judge_axioms-judged.ensures.words }
+pub returns-clause-outcome : goal.returns-clause-outcome
+returns-clause-outcome c =
+    let L = c.args.lent.now in
+    let vs = verdicts_in (deck_in L) (structure L) in
+    let e = outcome-reasons c.args.reasons vs (omega (arith, c.if-reasons-eq0.false)) in
+    (rw c.judge_all-worst.ensures.worst at c.max.ensures) ∙ worse-max (outcome_of 0 vs) Open ∙ sym e
