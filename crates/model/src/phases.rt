@@ -15,7 +15,7 @@ ghost use Rattle.build.specs.Seed.{Seeded};
 
 use crate::closing::close_chains_and_transitivity;
 use crate::expand::expand;
-use crate::rounds::expand_from_axioms;
+use crate::rounds::expand_lent;
 use atoms::bytes::compute_top_floor;
 use atoms::reasons::{Reason, note};
 use build::bounds::Bounds;
@@ -109,7 +109,7 @@ fn axioms_phase(
         (expand_from_axioms (deck_of deck.now) floor.now bounds (begun (deck_of deck.now) (lent labels.old edges.old log.old) tally.old)) }
 {
     let t = *tally;
-    let s = expand_from_axioms(deck, bounds, floor, label, labels, edges, log, t);
+    let s = expand_lent(deck, bounds, floor, label, labels, edges, log, t);
     let next = tally_of(s);
     *tally = next;
     has_tripped(s)
