@@ -1,4 +1,5 @@
-// Rounds of rules over the elements, until a round adds no element.
+// Rounds of rules over the elements, until a round adds no element. What is asked of an element or of the table of triggers is said of the structure,
+// which every step changes: a struct with an invariant would be made anew for each, and so these are parameters beside it.
 ghost use Rattle.std.specs.Prelude.{◌≡◌, ◌&&◌, ◌<◌, ◌≤◌, [], get_or, is_err, IfOk};
 ghost use Rattle.deck.specs.Accepted.{content};
 ghost use Rattle.deck.specs.Deck.{Axiom, concept_count, axiom_at, axiom_count};
@@ -165,10 +166,9 @@ fn fire_axiom(b: &mut Build<'_, '_>, sizes: &[u8], axiom: u32, e: Element) -> Re
 {
     let deck = b.plan.deck;
     let record = deck.axiom_at(axiom);
-    let tag = record.tag;
     let x = record.first;
     let y = record.second;
-    match tag {
+    match record.tag {
         0 => fire(b, sizes, ConceptId(x), ConceptId(y), e),
         1 => fire_equivalent(b, sizes, Span { start: x, count: y }, e),
         _ => Ok(()),

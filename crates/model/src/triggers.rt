@@ -26,7 +26,8 @@ pub enum Trigger {
 }
 
 impl Trigger {
-    // The table's word for it, before the words of so many axioms that never add anything: a class, which is below 4,096; 4,096; or more by the number of axioms from its own on that never do. An enum there would not tell how far to jump, in the fixed memory of a word.
+    // Its word in the table, where so many axioms after its own never add anything: the class, which is below 4,096; 4,096; or more by the number of axioms from its own on that never do.
+    // A word, since the table is in fixed memory, and a `Trigger` would not tell how far to jump.
     fn word(self, never: u32) -> u32
         requires { never ≤ 16384 }
         ensures { result ≡ word_of self never }
@@ -53,8 +54,7 @@ pub fn may_add(deck: &Deck, concept: ConceptId) -> bool
     requires concept_bound { concept.0 < concept_count (content deck.now) }
     ensures { result ≡ may_add (content deck.now) concept.0 }
 {
-    let expr = deck.concept_at(concept);
-    match expr {
+    match deck.concept_at(concept) {
         ConceptExpr::And(list) => any_builds(deck, concept, list),
         _ => goes_on(deck, concept),
     }
@@ -81,8 +81,7 @@ fn atom_of(deck: &Deck, concept: ConceptId) -> Option<ClassId>
     requires concept_bound { concept.0 < concept_count (content deck.now) }
     ensures { IfSome result (Needs (content deck.now) (λ label. holds_atoms (content deck.now) label concept.0)) }
 {
-    let expr = deck.concept_at(concept);
-    match expr {
+    match deck.concept_at(concept) {
         ConceptExpr::Atomic(class) => Some(class),
         _ => None,
     }
@@ -101,8 +100,7 @@ fn class_needed(deck: &Deck, concept: ConceptId) -> Option<ClassId>
     requires concept_bound { concept.0 < concept_count (content deck.now) }
     ensures { IfSome result (Needs (content deck.now) (λ label. holds_atoms (content deck.now) label concept.0)) }
 {
-    let expr = deck.concept_at(concept);
-    match expr {
+    match deck.concept_at(concept) {
         ConceptExpr::And(list) => first_atom(deck, list),
         _ => atom_of(deck, concept),
     }
@@ -169,10 +167,9 @@ fn trigger_of(deck: &Deck, axiom: u32) -> Trigger
     ensures { IsTrigger (content deck.now) (axiom_at (content deck.now) «axiom») result }
 {
     let record = deck.axiom_at(axiom);
-    let tag = record.tag;
     let x = record.first;
     let y = record.second;
-    match tag {
+    match record.tag {
         0 => sub_class_trigger(deck, ConceptId(x), ConceptId(y)),
         1 => equivalent_trigger(deck, Span { start: x, count: y }),
         _ => Trigger::Never,

@@ -1,4 +1,4 @@
-use Rattle.deck.proofs.MatchLaws.{at_least}
+use native.Mathlib.Omega.{arith}
 use Rattle.build.proofs.BuildingLaws.{holds-is, holds-same}
 use Rattle.model.proofs.RoundLaws.{sub-class-fires, equivalent-fires, other-fires}
 use Rattle.model.proofs.rounds.fire_axiom.Goals as goal
@@ -13,4 +13,4 @@ returns-in-1 c =
 
 pub returns-in_default : goal.returns-in_default
 returns-in_default c =
-    holds-is (holds-same c.requires.ready) (other-fires c.axiom_at-record.ensures _ _ _ _ (at_least c.axiom_at-record.result.tag 2 c.in_default.in_default-own.rest))
+    holds-is (holds-same c.requires.ready) (other-fires c.axiom_at-record.ensures _ _ _ _ (omega arith))

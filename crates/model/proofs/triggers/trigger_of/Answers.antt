@@ -1,4 +1,4 @@
-use Rattle.deck.proofs.MatchLaws.{at_least}
+use native.Mathlib.Omega.{arith}
 use Rattle.atoms.proofs.FloorLaws.{axiom-sub-class, axiom-equivalent}
 use Rattle.model.proofs.TriggerLaws.{trigger-is, trigger-other}
 use Rattle.model.proofs.triggers.trigger_of.Goals as goal
@@ -13,4 +13,4 @@ returns-in-1 c =
 
 pub returns-in_default : goal.returns-in_default
 returns-in_default c =
-    trigger-other c.axiom_at-record.ensures (at_least c.axiom_at-record.result.tag 2 c.in_default.in_default-own.rest)
+    trigger-other c.axiom_at-record.ensures (omega arith)
