@@ -8,7 +8,7 @@ pub mod floor;
 pub mod labels;
 pub mod large;
 pub mod leaves;
-mod lists;
+pub mod lists;
 pub mod marks;
 pub mod occurrences;
 pub mod reasons;

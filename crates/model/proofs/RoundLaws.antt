@@ -14,6 +14,7 @@ use native.Mathlib.Omega.{arith}
 use lib.ListN.{length, get_or}
 use lib.Dec.{eqb}
 use borrow.Author.Tests.{eq-eqb, ne_eqb}
+use Rattle.std.specs.Prelude.{max}
 use Rattle.deck.specs.declared.axioms.AxiomRecord.{AxiomRecord}
 use Rattle.deck.specs.Deck.{Deck, Axiom, axiom_at}
 use Rattle.deck.specs.Content.{deck_of, axiom_of, make_axiom}
@@ -22,22 +23,21 @@ use Rattle.deck.proofs.CaseLaws.{Cases, case_at}
 use Rattle.eval.specs.Lent.{label_width}
 use Rattle.eval.specs.Lists.{range}
 use Rattle.build.specs.declared.bounds.Bounds.{Bounds}
-use Rattle.build.specs.declared.tally.Tally.{Tally}
-use Rattle.build.specs.declared.tally.Step.{Step}
+use Rattle.build.specs.declared.building.Build.{Build}
 use Rattle.atoms.specs.Walk.{walk}
-use Rattle.atoms.specs.Reasons.{bound_tripped}
-use Rattle.build.specs.Push.{quiet}
-use Rattle.build.specs.Model.{Model, trip_in, Buffers, begun, Prepared, Built}
+use Rattle.atoms.specs.Reasons.{bound_tripped, noted, counted}
+use Rattle.build.specs.Model.{Model, trip_in, Built}
+use Rattle.build.specs.Building.{deck_in, buffers, step_to, model_of, model_by, Ready, Same, Holds}
 use Rattle.build.specs.Exists.{work}
-use Rattle.model.specs.Rounds.{fire, fire_pair, fire_from, fire_axiom, visit, round, rounds}
+use Rattle.model.specs.Rounds.{fire, fire_pair, fire_from, fire_axiom, visit, round, rounds, expand_from_axioms}
 use Rattle.atoms.specs.Antecedent.{is_rule, holds_atoms}
 use Rattle.build.proofs.ExistsLaws.{work-stuck}
 use Rattle.atoms.proofs.RowLaws.{length-rows}
-use Rattle.build.proofs.InternLaws.{held-length}
 use Rattle.build.proofs.IdleLaws.{either}
 use Rattle.atoms.proofs.FloorLaws.{axiom-sub-class, axiom-equivalent}
 use Rattle.atoms.proofs.WalkLaws.{walk-fixed, walk-placed}
-use Rattle.build.proofs.BuildLaws.{fits_in, built-same, built-is, built-start, built-tripped, built-count, built-quiet, built-trans}
+use Rattle.build.proofs.BuildLaws.{built-is, built-start, built-tripped, built-count, built-quiet, built-trip, built-trans}
+use Rattle.build.proofs.BuildingLaws.{same-trans, holds-same, holds-is, ready-after}
 
 -- ---- an axiom: what holds of the model as it was, of a rule, and of the pairs of a list holds after it
 module _ (D : Deck) (floor : List ℕ) (B : Bounds) (e : ℕ) (m : Model) (Q : Model → Type 0) (same : Q m) (rule : (ante sup : ℕ) → Q (fire D floor B e ante sup m)) (pairs : (l : List ℕ) → Q (walk (fire_from D floor B e l) l m)) where
@@ -94,22 +94,17 @@ module _ (D : Deck) (floor : List ℕ) (B : Bounds) (e : ℕ) (m : Model) (w : m
   pub visit-stuck : visit D floor B e m ≡ m
   visit-stuck = visit-in-order D floor B e m ∙ walk-fixed (fire_axiom D floor B e) D.axioms m axiom-stuck
 
--- ---- the labels' buffer keeps its length
-pub labels-size : {s : List ℕ} {B : Bounds} {b : Buffers} {t : Tally} {floor label : List ℕ} → Prepared s B b t floor label → {b' : Buffers} {l : List ℕ} {r : Step} {m : Model} → Built (deck_of s) B b t b' l r m → length b'.labels ≡ length b.labels
-labels-size P {r = r} X = held-length X.held (fits_in P r.tally.elements X.most)
-
--- ---- a rule at element e, as the code meets it
-module _ {s : List ℕ} {B : Bounds} {b : Buffers} {t : Tally} {floor label : List ℕ} (P : Prepared s B b t floor label) (e ante sup : ℕ) {f : Bool}
-    (k : f ≡ (holds_atoms (deck_of s) (get_or (begun (deck_of s) b t).labels e []) ante && is_rule (deck_of s) ante)) where
-  pub fire-yes : f ≡ true → {b' : Buffers} {l : List ℕ} {r : Step} → Built (deck_of s) B b t b' l r (work (deck_of s) floor B sup e (begun (deck_of s) b t)) → Built (deck_of s) B b t b' l r (fire (deck_of s) floor B e ante sup (begun (deck_of s) b t))
-  unfolding fire
-  fire-yes w X = built-is X (sym (ap (λ c. cond c (work (deck_of s) floor B sup e (begun (deck_of s) b t)) (begun (deck_of s) b t)) (sym k ∙ w)))
-
-  pub fire-no : f ≡ false → Built (deck_of s) B b t b label (quiet t) (fire (deck_of s) floor B e ante sup (begun (deck_of s) b t))
-  unfolding fire
-  fire-no w = built-is (built-same P) (sym (ap (λ c. cond c (work (deck_of s) floor B sup e (begun (deck_of s) b t)) (begun (deck_of s) b t)) (sym k ∙ w)))
-
 module _ (D : Deck) (floor : List ℕ) (B : Bounds) (e : ℕ) (m : Model) where
+  -- ---- a rule, as the code tests it
+  module _ (ante sup : ℕ) {f : Bool} (k : f ≡ (holds_atoms D (get_or m.labels e []) ante && is_rule D ante)) where
+    pub fire-yes : f ≡ true → work D floor B sup e m ≡ fire D floor B e ante sup m
+    unfolding fire
+    fire-yes w = rw (sym k ∙ w)
+
+    pub fire-no : f ≡ false → m ≡ fire D floor B e ante sup m
+    unfolding fire
+    fire-no w = rw (sym k ∙ w)
+
   -- ---- two members
   pub pair_same : (a b : ℕ) → a ≡ b → m ≡ fire_pair D floor B e a b m
   unfolding fire_pair
@@ -146,73 +141,101 @@ module _ {s : List ℕ} {a : ℕ} {r : AxiomRecord} (R : AxiomRead s a r) (floor
   other-fires h = idle-tag (deck_of s) floor B e m s r.first r.second r.third r.tag h R.known ∙ ap (λ x. fire_axiom (deck_of s) floor B e x m) R.is
 
 -- ---- a round: the elements that the tally counts
-pub round-walk : (D : Deck) (floor : List ℕ) (B : Bounds) (b : Buffers) (t : Tally) → walk (visit D floor B) (range 0 (t.elements - 0)) (begun D b t) ≡ round D floor B (begun D b t)
+pub round-walk : (b : Build) → walk (visit (deck_in b) b.plan.floor.now b.plan.bounds) (range 0 (b.tally.elements - 0)) (model_of b) ≡ round (deck_in b) b.plan.floor.now b.plan.bounds (model_of b)
 unfolding round
-round-walk D floor B b t = rw (sub-zero t.elements, length-rows (label_width D) t.elements b.labels)
+round-walk b = rw (sub-zero b.tally.elements, length-rows (label_width (deck_in b)) b.tally.elements b.labels.now)
 
 -- ---- rounds
-module _ (D : Deck) (floor : List ℕ) (B : Bounds) (m : Model) where
-  ended : Bool
-  ended = (round D floor B m).state.tripped || eqb (length (round D floor B m).labels) (length m.labels)
+module _ (D : Deck) (floor : List ℕ) (B : Bounds) where
+  -- what is left where so many rounds may still come, and the bound trips after the last
+  abbrev pub rest : ℕ → Model → Model
+  rest zero m = trip_in (bound_tripped 2 B.max_rounds) m
+  rest (suc k) m = rounds D floor B k m
 
-  by_zero : rounds D floor B 0 m ≡ cond ended (round D floor B m) (trip_in (bound_tripped 2 B.max_rounds) (round D floor B m))
-  unfolding rounds ended
-  by_zero = refl
+  module _ (m : Model) where
+    ended : Bool
+    ended = (round D floor B m).state.tripped || eqb (length (round D floor B m).labels) (length m.labels)
 
-  by-suc : (k : ℕ) → rounds D floor B (suc k) m ≡ cond ended (round D floor B m) (rounds D floor B k (round D floor B m))
-  unfolding rounds ended
-  by-suc k = refl
+    one_round : (k : ℕ) → rounds D floor B k m ≡ cond ended (round D floor B m) (rest k (round D floor B m))
+    unfolding rounds ended
+    one_round zero = refl
+    one_round (suc k) = refl
 
-  ends_it : ended ≡ true → (k : ℕ) → rounds D floor B k m ≡ round D floor B m
-  ends_it q zero = by_zero ∙ rw q
-  ends_it q (suc k) = by-suc k ∙ rw q
+    ends_it : ended ≡ true → (k : ℕ) → rounds D floor B k m ≡ round D floor B m
+    ends_it q k = one_round k ∙ rw q
 
-  goes_on : ended ≡ false → (k : ℕ) → (k ≡ 0 → ⊥) → rounds D floor B k m ≡ rounds D floor B (k - 1) (round D floor B m)
-  goes_on q k h = let z : k ≡ suc (k - 1) = omega arith in ap (λ j. rounds D floor B j m) z ∙ by-suc (k - 1) ∙ rw q
+    goes_on : ended ≡ false → (k : ℕ) → rounds D floor B k m ≡ rest k (round D floor B m)
+    goes_on q k = one_round k ∙ rw q
 
-  is_last : ended ≡ false → (k : ℕ) → k ≡ 0 → rounds D floor B k m ≡ trip_in (bound_tripped 2 B.max_rounds) (round D floor B m)
-  is_last q k h = ap (λ j. rounds D floor B j m) h ∙ by_zero ∙ rw q
+    ended-trip : (round D floor B m).state.tripped ≡ true → ended ≡ true
+    unfolding ended
+    ended-trip w = rw w
 
-  ended-trip : (round D floor B m).state.tripped ≡ true → ended ≡ true
-  unfolding ended
-  ended-trip w = rw w
+    ended-still : length (round D floor B m).labels ≡ length m.labels → ended ≡ true
+    unfolding ended
+    ended-still w = rw (eq-eqb (length (round D floor B m).labels) (length m.labels) w, or-true)
 
-  ended-still : length (round D floor B m).labels ≡ length m.labels → ended ≡ true
-  unfolding ended
-  ended-still w = rw (eq-eqb (length (round D floor B m).labels) (length m.labels) w, or-true)
+    not-ended : (round D floor B m).state.tripped ≡ false → (length (round D floor B m).labels ≡ length m.labels → ⊥) → ended ≡ false
+    unfolding ended
+    not-ended w h = rw w (ne_eqb (length (round D floor B m).labels) (length m.labels) h)
 
-  not-ended : (round D floor B m).state.tripped ≡ false → (length (round D floor B m).labels ≡ length m.labels → ⊥) → ended ≡ false
-  unfolding ended
-  not-ended w h = rw w (ne_eqb (length (round D floor B m).labels) (length m.labels) h)
+  of-suc : (k : ℕ) → 0 < k → (m : Model) → rest k m ≡ rounds D floor B (k - 1) m
+  of-suc zero h m = absurd (omega arith)
+  of-suc (suc k) h m = let z : suc k - 1 ≡ k = omega arith in ap (λ j. rounds D floor B j m) (sym z)
 
--- the rounds have come so far that at most k may follow the next, and the buffers hold where they are
-pub record Rounding (D : Deck) (floor : List ℕ) (B : Bounds) (k₀ : ℕ) (b : Buffers) (t : Tally) (k : ℕ) (b' : Buffers) (l : List ℕ) (held : Tally) : Type 0 where
-  pub built : Built D B b t b' l (quiet held) (begun D b' held)
-  pub goes : rounds D floor B k₀ (begun D b t) ≡ rounds D floor B k (begun D b' held)
+-- the rounds from a on have come so far that k may still come, and b holds where they are
+pub record Rounding (a : Build) (k : ℕ) (b : Build) : Type 0 where
+  pub holds : Holds a b false (model_by a b)
+  pub goes : expand_from_axioms (deck_in a) a.plan.floor.now a.plan.bounds (model_of a) ≡ rest (deck_in a) a.plan.floor.now a.plan.bounds k (model_by a b)
 
-pub rounding-start : {s : List ℕ} {B : Bounds} {b : Buffers} {t : Tally} {floor label : List ℕ} → Prepared s B b t floor label → {k : ℕ} → k ≡ B.max_rounds - 1 → Rounding (deck_of s) floor B (B.max_rounds - 1) b t k b label t
-rounding-start {s} {B} {b} {t} {floor} P q = record { built = built-same P; goes = ap (λ j. rounds (deck_of s) floor B j (begun (deck_of s) b t)) (sym q) }
+pub rounding-start : {a : Build} → Ready a → {k : ℕ} → k ≡ max a.plan.bounds.max_rounds 1 → Rounding a k a
+unfolding expand_from_axioms
+rounding-start {a} P {k} q = record { holds = holds-same P; goes = let z : k - 1 ≡ a.plan.bounds.max_rounds - 1 = omega (arith, q) in rw z at (sym (of-suc (deck_in a) a.plan.floor.now a.plan.bounds k (omega (arith, q)) (model_of a))) }
 
-module _ {D : Deck} {floor : List ℕ} {B : Bounds} {k₀ : ℕ} {b : Buffers} {t : Tally} {k : ℕ} {b₁ : Buffers} {l₁ : List ℕ} {held : Tally} (G : Rounding D floor B k₀ b t k b₁ l₁ held) {b₂ : Buffers} {l₂ : List ℕ} {r : Step}
-    (X : Built D B b₁ held b₂ l₂ r (round D floor B (begun D b₁ held))) where
-  both : Built D B b t b₂ l₂ r (round D floor B (begun D b₁ held))
-  both = built-trans G.built X
+module _ {a b : Build} {k : ℕ} (G : Rounding a k b) where
+  pub rounding-ready : Ready a → Ready b
+  rounding-ready P = ready-after P G.holds
 
-  pub rounding-trip : r.tripped ≡ true → Built D B b t b₂ l₂ r (rounds D floor B k₀ (begun D b t))
-  rounding-trip w = built-is both (sym (G.goes ∙ ends_it D floor B _ (ended-trip D floor B _ (built-tripped X ∙ w)) k))
+  abbrev D : Deck
+  D = deck_in a
 
-  counts : length (begun D b₁ held).labels ≡ held.elements
-  counts = length-rows (label_width D) held.elements b₁.labels
+  abbrev floor : List ℕ
+  floor = a.plan.floor.now
 
-  pub rounding-still : r.tally.elements ≡ held.elements → Built D B b t b₂ l₂ r (rounds D floor B k₀ (begun D b t))
-  rounding-still w = built-is both (sym (G.goes ∙ ends_it D floor B _ (ended-still D floor B _ (built-count X ∙ w ∙ sym counts)) k))
+  abbrev B : Bounds
+  B = a.plan.bounds
 
-  module _ (w : r.tripped ≡ false) (h : r.tally.elements ≡ held.elements → ⊥) where
-    unended : ended D floor B (begun D b₁ held) ≡ false
-    unended = not-ended D floor B _ (built-tripped X ∙ w) (λ q. h (sym (built-count X) ∙ q ∙ counts))
+  -- another round
+  module _ {c : Build} {r : Bool} (H : Holds b c r (round (deck_in b) b.plan.floor.now b.plan.bounds (model_of b))) (h : 0 < k) where
+    turn : Holds a c r (round D floor B (model_by a b))
+    turn = record { same = same-trans G.holds.same H.same; built = built-trans G.holds.built (rw G.holds.same.plan at H.built) }
 
-    pub rounding-more : (k ≡ 0 → ⊥) → Rounding D floor B k₀ b t (k - 1) b₂ l₂ r.tally
-    rounding-more z = record { built = built-quiet both w; goes = G.goes ∙ goes_on D floor B _ unended k z ∙ ap (rounds D floor B (k - 1)) (sym (built-start X w)) }
+    this : expand_from_axioms D floor B (model_of a) ≡ rounds D floor B (k - 1) (model_by a b)
+    this = G.goes ∙ of-suc D floor B k h (model_by a b)
 
-    pub rounding-last : k ≡ 0 → {b₃ : Buffers} {r₃ : Step} → Built D B b₂ r.tally b₃ l₂ r₃ (trip_in (bound_tripped 2 B.max_rounds) (begun D b₂ r.tally)) → Built D B b t b₃ l₂ r₃ (rounds D floor B k₀ (begun D b t))
-    rounding-last z Y = built-is (built-trans (built-quiet both w) Y) (ap (trip_in (bound_tripped 2 B.max_rounds)) (built-start X w) ∙ sym (G.goes ∙ is_last D floor B _ unended k z))
+    pub rounding-trip : r ≡ true → Holds a c r (expand_from_axioms D floor B (model_of a))
+    rounding-trip w = holds-is turn (sym (this ∙ ends_it D floor B _ (ended-trip D floor B _ (built-tripped turn.built ∙ w)) (k - 1)))
+
+    counts : length (model_by a b).labels ≡ b.tally.elements
+    counts = length-rows (label_width D) b.tally.elements b.labels.now
+
+    pub rounding-still : c.tally.elements ≡ b.tally.elements → Holds a c r (expand_from_axioms D floor B (model_of a))
+    rounding-still w = holds-is turn (sym (this ∙ ends_it D floor B _ (ended-still D floor B _ (built-count turn.built ∙ w ∙ sym counts)) (k - 1)))
+
+    pub rounding-more : r ≡ false → (c.tally.elements ≡ b.tally.elements → ⊥) → Rounding a (k - 1) c
+    rounding-more w n =
+        let e : ended D floor B (model_by a b) ≡ false = not-ended D floor B _ (built-tripped turn.built ∙ w) (λ q. n (sym (built-count turn.built) ∙ q ∙ counts)) in
+        let s = built-start turn.built w in
+        record {
+          holds = record { same = turn.same; built = built-quiet turn.built w };
+          goes = this ∙ goes_on D floor B _ e (k - 1) ∙ ap (rest D floor B (k - 1)) (sym s);
+        }
+
+  -- none left: the bound trips
+  pub rounding-last : Ready a → k ≡ 0 → {c : Build} → Same b c → c.log.now ≡ noted b.log.now b.tally.reasons (bound_tripped 2 B.max_rounds) → c.tally ≡ record { elements = b.tally.elements; edges = b.tally.edges; reasons = counted b.tally.reasons }
+      → (c.label ≡ b.label) × (c.labels ≡ b.labels) × (c.edges ≡ b.edges) → Holds a c true (expand_from_axioms D floor B (model_of a))
+  rounding-last P z {c} S l t u =
+      let x = bound_tripped 2 B.max_rounds in
+      let Y : Built (deck_in b) b.plan.bounds (buffers b) b.tally (buffers c) c.label.now (step_to c true) (trip_in x (model_of b)) = rw (u.0, u.1, u.2) (built-trip (rounding-ready P) x l (rw t)) in
+      let e : expand_from_axioms D floor B (model_of a) ≡ trip_in x (model_by a b) = rw z at G.goes in
+      record { same = same-trans G.holds.same S; built = built-is (built-trans G.holds.built (rw G.holds.same.plan at Y)) (sym e) }

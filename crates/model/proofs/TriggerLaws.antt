@@ -3,24 +3,37 @@
 --     adds-and, …, adds-other               whether a concept that was read may add something
 --     pair-idle, from-idle                  members of EquivalentClasses
 --     needs-atomic, needs-and, needs-operand    a class that an antecedent needs
---     trigger-sub, …, pair-both             an axiom's trigger
---     entry-plain, entry-run, table-next    the table's entries
---     steps, pass-first, pass-over          from one axiom to the next that may add something
-use Prim.Native.Nat.{ℕ, zero, suc, ◌+◌, ◌-◌, ◌*◌, ◌/◌, ◌%◌, ◌<◌, ◌≤◌}
+--     sub-needs, …, pair-both               an axiom's trigger
+--     IdleFrom, entry-of, table_more        the table's entries
+--     steps, pass-over                      from one axiom to the next that may add something
+use Prim.Native.Nat.{ℕ, zero, suc, ◌+◌, ◌-◌, ◌<◌, ◌≤◌}
 use mathlib.Core.Bool.{Bool, true, false, cond, ◌&&◌, ◌||◌}
 use mathlib.Core.Path.{◌≡◌, refl, sym, ap, ◌∙◌}
 use mathlib.Core.List.{List, [], ◌∷◌, map, Memᴰ as Member}
 use mathlib.Core.Logic.{⊎_elim}
-use native.Mathlib.Nat.{eq-or-lt_of_le, mul-le-mul_right, suc-mul}
+use native.Mathlib.Nat.{eq-or-lt_of_le}
 use native.Mathlib.Omega.{arith}
 use lib.ListN.{length, get_or, set, drop, length-set}
 use lib.Seq.{get_or-set_same, get_or-set_other}
 use lib.Dec.{eqb}
 use borrow.Author.Tests.{lt-ltb, le-ltb, eqb-true}
+use denote.Param.Members.{Mut}
+use Rattle.std.specs.Prelude.{Option, None, Some, IfSome, MatchOption, IsSomeAnd}
+use Rattle.std.specs.Fn.{Called}
+use Rattle.std.specs.List.{FoldsTo}
+use Rattle.std.specs.Iterator.{YieldsThen}
+use Rattle.std.specs.Iterator.Runs.{SomeRun, AllItemsGive, IsFirstToGive, CallKeepsClosure}
+use Rattle.std.proofs.iter.runs.Sources.{range_runs}
+use Rattle.std.proofs.iter.Yields.{nat_range_steps}
+use Rattle.std.proofs.lemmas.Iterator.{YieldsList-from_range}
+use Rattle.std.proofs.lemmas.Iterator.Search.{any_from_yields_List}
+use Rattle.deck.proofs.TableLaws.{list_length}
+use Rattle.atoms.proofs.ListWalks.{any-places}
 use types.Run.{OneOf, miss}
 use denote.Enum.Declared.{tag_of}
 use Rattle.deck.specs.contracts.concepts.ConceptExpr.{the_type}
 use Rattle.deck.specs.declared.concepts.ConceptExpr.{ConceptExpr}
+use Rattle.deck.specs.declared.numbers.ClassId.{ClassId}
 use Rattle.deck.specs.declared.rows.Span.{Span}
 use Rattle.deck.specs.declared.axioms.AxiomRecord.{AxiomRecord}
 use Rattle.deck.specs.Deck.{Deck, Concept, Role, Axiom, class_count, concept_at, axiom_count, axiom_at}
@@ -28,25 +41,29 @@ use Rattle.deck.specs.Content.{IsAccepted, deck_of}
 use Rattle.deck.specs.Reads.{ConceptRead, expr_of, list_of, ListFits, AxiomRead}
 use Rattle.deck.proofs.CaseLaws.{lt-or-le}
 use Rattle.eval.specs.Lists.{every, any}
-use Rattle.eval.specs.Lent.{bit, label_width, member_in}
+use Rattle.eval.specs.Lent.{label_width}
 use Rattle.eval.specs.Numbered.{numbered, below}
 use Rattle.eval.proofs.Clash.{clash}
 use Rattle.eval.proofs.ListLaws.{every-at, none-at, member-at}
+use Rattle.eval.proofs.Walks.{list-step}
 use Rattle.build.specs.declared.bounds.Bounds.{Bounds}
 use Rattle.atoms.specs.Label.{label_has}
 use Rattle.atoms.specs.Walk.{walk}
-use Rattle.build.specs.declared.tally.Tally.{Tally}
-use Rattle.atoms.specs.Rows.{rows_of}
-use Rattle.build.specs.Model.{Model, Buffers, Prepared}
+use Rattle.atoms.specs.Rows.{Wide, none, more}
+use Rattle.build.specs.declared.building.Build.{Build}
+use Rattle.build.specs.Model.{Model}
+use Rattle.build.specs.Building.{deck_in, model_of, model_by, Ready, Same}
 use Rattle.build.specs.Exists.{builds, builds_at, work_of, work_step, idle, work}
 use Rattle.model.specs.Rounds.{fire, fire_pair, fire_from, fire_axiom}
 use Rattle.atoms.specs.Antecedent.{is_rule, holds_atoms}
-use Rattle.model.specs.Triggers.{adds_as, may_add, Needs, Idle, Trigger, Entry, Triggers, run_at, step_of, step_in, Chain, Steps}
-use Rattle.atoms.proofs.FloorLaws.{read_is}
-use Rattle.atoms.proofs.MemberLaws.{label-member}
+use Rattle.model.specs.declared.triggers.Trigger.{Trigger}
+use Rattle.model.specs.Triggers.{adds_as, may_add, Needs, Idle, IsTrigger, word_of, Entry, Triggers, step_of, step_in, Chain, Steps}
+use Rattle.atoms.proofs.FloorLaws.{read_is, fits_read}
 use Rattle.atoms.proofs.WalkLaws.{walk-keeps, walk-fixed}
 use Rattle.atoms.proofs.AntecedentLaws.{holds-and, holds-atomic}
-use Rattle.build.proofs.BuildLaws.{OnModel, built-same}
+use Rattle.atoms.proofs.RowLaws.{length-rows, rows-wide}
+use Rattle.build.proofs.BuildLaws.{all_fit}
+use Rattle.build.proofs.BuildingLaws.{Walking}
 use Rattle.build.proofs.IdleLaws.{either, no-build}
 use Rattle.model.proofs.SkipLaws.{walk-skip}
 use Rattle.model.proofs.RoundLaws.{pair_same, other-fires}
@@ -177,19 +194,36 @@ module _ (D : Deck) (floor : List ℕ) (B : Bounds) (e : ℕ) where
   unfolding fire_axiom
   sub-lacks a b m h = fire-lacks a b m h
 
+-- ---- whether a member of a list passes, as a chain asks in turn
+pub any-members : {F : Type 0} {g : Mut F (ℕ × Unit {0}) Bool} {f : F} {u : _} {r : Bool} (s : List ℕ) (l : Span) (p : ℕ → Bool)
+    → (xs : List ℕ) × (o : Option ℕ) × (j : F) × YieldsThen nat_range_steps (record { start = 0; end = l.count }) xs o u × FoldsTo (λ p x q. Called g p (x, tt) false q) f xs j × MatchOption o (r ≡ false) (λ x. (r ≡ true) × ((h : F) × Called g j (x, tt) true h))
+    → ((x : ℕ) (b : Bool) (q : F) → Called g f (x, tt) b q → (q ≡ f) × (b ≡ p (get_or (list_of s l) x 0))) → r ≡ any (map p (list_of s l))
+any-members s l p ran k =
+    let at : ℕ → Bool = λ i. p (get_or (list_of s l) i 0) in
+    any_from_yields_List at _ _ _ ran (YieldsList-from_range 0 l.count l.count refl (omega arith)) k ∙ any-places p (list_of s l) l.count (list_length s l.start l.count)
+
+-- ---- what a member of a list gives, where a chain finds one that gives something
+pub found-member : {F B : Type 0} {g : Mut F (ℕ × Unit {0}) (Option B)} {f : F} (n : ℕ) (Q : B → Type 0) (r : Option B)
+    → SomeRun nat_range_steps (record { start = 0; end = n }) (λ p. MatchOption r ((p.whole ≡ true) × AllItemsGive p g f None) (λ y. (i : ℕ) × (i < p.len) × (p.len ≡ i + 1) × IsFirstToGive p g f (Some y) None i))
+    → CallKeepsClosure g f → ((x : ℕ) (y : B) → x < n → Called g f (x, tt) (Some y) f → Q y) → IfSome r Q
+found-member n Q None d k h = tt
+found-member {g = g} {f = f} n Q (Some y) d k h = by (d.0.at d.2.0) (d.2.3 k).0 ((range_runs d.0 d.0.seen).2 d.2.0)
+  where
+    by : (o : Option ℕ) → IsSomeAnd o (λ x. Called g f (x, tt) (Some y) f) → IfSome o (λ x. (x ≡ d.0.from.start + d.2.0) × (x < d.0.from.end)) → Q y
+    by None a b = absurd a
+    by (Some x) a b = h x y (rw d.1 at b.1) a
+
 -- ---- a class that an antecedent needs
 pub list-wider : {s : List ℕ} {c n : ℕ} {l : Span} → ListFits s c l → c < n → ListFits s n l
 list-wider F h = record { within = F.within; below = λ i b. omega (arith, F.below i b, h) }
 
-pub needs-nothing : {D : Deck} {p : List ℕ → Bool} → Needs D p 4096
-needs-nothing = record { most = omega arith; known = λ h. absurd (omega arith); lacks = λ h. absurd (omega arith) }
-
 module _ (s : List ℕ) (A : IsAccepted s) (c : ℕ) {expr : ConceptExpr} (R : ConceptRead s c expr) where
-  pub needs-atomic : (k : ℕ) → expr ≡ ConceptExpr.Atomic (record { 0 = k }) → k < class_count (deck_of s) → k < 4096 → Needs (deck_of s) (λ label. holds_atoms (deck_of s) label c) k
-  needs-atomic k p b h = record { most = omega arith; known = λ q. b; lacks = λ q label w. sym (holds-atomic s A c R label k p) ∙ w }
+  pub needs-atomic : (k : ClassId) → expr ≡ ConceptExpr.Atomic k → Needs (deck_of s) (λ label. holds_atoms (deck_of s) label c) k
+  needs-atomic k p = record { known = fits_read s A c R _ p; lacks = λ label w. sym (holds-atomic s A c R label k.0 p) ∙ w }
 
-  pub needs-and : (l : Span) → expr ≡ ConceptExpr.And l → {w : ℕ} → Needs (deck_of s) (λ label. every (map (holds_atoms (deck_of s) label) (list_of s l))) w → Needs (deck_of s) (λ label. holds_atoms (deck_of s) label c) w
-  needs-and l p N = record { most = N.most; known = N.known; lacks = λ q label w. sym (holds-and s A c R label l p) ∙ N.lacks q label w }
+  pub needs-and : (l : Span) → expr ≡ ConceptExpr.And l → (r : Option ClassId) → IfSome r (Needs (deck_of s) (λ label. every (map (holds_atoms (deck_of s) label) (list_of s l)))) → IfSome r (Needs (deck_of s) (λ label. holds_atoms (deck_of s) label c))
+  needs-and l p None N = N
+  needs-and l p (Some k) N = record { known = N.known; lacks = λ label w. sym (holds-and s A c R label l p) ∙ N.lacks label w }
 
 every-false : (p : ℕ → Bool) (l : List ℕ) (x : ℕ) → Member x l → p x ≡ false → every (map p l) ≡ false
 every-false p l x i h = go (every (map p l)) refl
@@ -198,45 +232,30 @@ every-false p l x i h = go (every (map p l)) refl
     go true q = let y : p x ≡ true = every-at p l x q i in clash (cc)
     go false q = q
 
-pub needs-operand : (D : Deck) (l : List ℕ) (i : ℕ) → i < length l → {w : ℕ} → Needs D (λ label. holds_atoms D label (get_or l i 0)) w → Needs D (λ label. every (map (holds_atoms D label) l)) w
-needs-operand D l i b N = record {
-  most = N.most;
-  known = N.known;
-  lacks = λ q label w. every-false (holds_atoms D label) l (get_or l i 0) (member-at 0 l i b) (N.lacks q label w);
-}
+pub needs-operand : (D : Deck) (l : List ℕ) (i : ℕ) → i < length l → {k : ClassId} → Needs D (λ label. holds_atoms D label (get_or l i 0)) k → Needs D (λ label. every (map (holds_atoms D label) l)) k
+needs-operand D l i b N = record { known = N.known; lacks = λ label w. every-false (holds_atoms D label) l (get_or l i 0) (member-at 0 l i b) (N.lacks label w) }
 
 -- ---- an axiom's trigger
-pub trigger-is : {D : Deck} {x y : Axiom} {w : ℕ} → x ≡ y → Trigger D x w → Trigger D y w
-trigger-is e T = rw e at T
+pub trigger-is : (D : Deck) {x y : Axiom} (t : Trigger) → x ≡ y → IsTrigger D x t → IsTrigger D y t
+trigger-is D t e T = rw e at T
 
-trigger-idle : {D : Deck} {x : Axiom} → Idle D x → Trigger D x 4097
-trigger-idle h = record { most = omega arith; known = λ q. absurd (omega arith); lacks = λ q. absurd (omega arith); never = λ q. h }
+pub sub-adds-nothing : (D : Deck) (a b : ℕ) → may_add D b ≡ false → Idle D (Axiom.SubClassOf a b)
+sub-adds-nothing D a b h floor B e m = sub-barren D floor B e a b m h
 
-pub sub-adds-nothing : {D : Deck} {a b : ℕ} → may_add D b ≡ false → Trigger D (Axiom.SubClassOf a b) 4097
-sub-adds-nothing {D} {a} {b} h = trigger-idle (λ floor B e m. sub-barren D floor B e a b m h)
+pub sub-no-rule : (D : Deck) (a b : ℕ) → is_rule D a ≡ false → Idle D (Axiom.SubClassOf a b)
+sub-no-rule D a b h floor B e m = sub-ruleless D floor B e a b m h
 
-pub sub-no-rule : {D : Deck} {a b : ℕ} → is_rule D a ≡ false → Trigger D (Axiom.SubClassOf a b) 4097
-sub-no-rule {D} {a} {b} h = trigger-idle (λ floor B e m. sub-ruleless D floor B e a b m h)
+pub sub-needs : (D : Deck) (a b : ℕ) {k : ClassId} → Needs D (λ label. holds_atoms D label a) k → IsTrigger D (Axiom.SubClassOf a b) (Trigger.Needs k)
+sub-needs D a b N = (N.known, λ floor B e m h. sub-lacks D floor B e a b m (N.lacks (get_or m.labels e []) h))
 
-pub members-add-nothing : {D : Deck} {l : List ℕ} → any (map (may_add D) l) ≡ false → Trigger D (Axiom.EquivalentClasses l) 4097
-members-add-nothing {D} {l} h = trigger-idle (λ floor B e m. equal-barren D floor B e l m h)
+pub members-add-nothing : (D : Deck) (l : List ℕ) → any (map (may_add D) l) ≡ false → Idle D (Axiom.EquivalentClasses l)
+members-add-nothing D l h floor B e m = equal-barren D floor B e l m h
 
-pub members-no-rule : {D : Deck} {l : List ℕ} → any (map (is_rule D) l) ≡ false → Trigger D (Axiom.EquivalentClasses l) 4097
-members-no-rule {D} {l} h = trigger-idle (λ floor B e m. equal-ruleless D floor B e l m h)
+pub members-no-rule : (D : Deck) (l : List ℕ) → any (map (is_rule D) l) ≡ false → Idle D (Axiom.EquivalentClasses l)
+members-no-rule D l h floor B e m = equal-ruleless D floor B e l m h
 
-pub trigger-other : {s : List ℕ} {a : ℕ} {r : AxiomRecord} → AxiomRead s a r → 2 ≤ r.tag → Trigger (deck_of s) (axiom_at (deck_of s) a) 4097
-trigger-other R h = trigger-idle (λ floor B e m. sym (other-fires R floor B e m h))
-
-pub trigger-any : {D : Deck} {x : Axiom} → Trigger D x 4096
-trigger-any = record { most = omega arith; known = λ q. absurd (omega arith); lacks = λ q. absurd (omega arith); never = λ q. absurd (omega arith) }
-
-pub trigger-sub : {D : Deck} (a b : ℕ) {w : ℕ} → Needs D (λ label. holds_atoms D label a) w → Trigger D (Axiom.SubClassOf a b) w
-trigger-sub {D} a b N = record {
-  most = omega (arith, N.most);
-  known = N.known;
-  lacks = λ q floor B e m h. sub-lacks D floor B e a b m (N.lacks q (get_or m.labels e []) h);
-  never = λ q. absurd (omega (arith, N.most));
-}
+pub trigger-other : {s : List ℕ} {a : ℕ} {r : AxiomRecord} → AxiomRead s a r → 2 ≤ r.tag → Idle (deck_of s) (axiom_at (deck_of s) a)
+trigger-other R h floor B e m = sym (other-fires R floor B e m h)
 
 -- ---- EquivalentClasses with two members: SubClassOf both ways
 module _ (D : Deck) (x y : ℕ) where
@@ -248,30 +267,18 @@ module _ (D : Deck) (x y : ℕ) where
       let second : f y y (f y x m) ≡ m = ap (f y y) (pair-as-fire D floor B e y x m q) ∙ sym (pair_same D floor B e m y y refl) in
       ap (λ (k : Model). f y y (f y x k)) first ∙ second
 
-  module _ {v w : ℕ} (T : Trigger D (Axiom.SubClassOf x y) v) (U : Trigger D (Axiom.SubClassOf y x) w) where
-    pub pair-backward : 4096 < v → Trigger D (Axiom.EquivalentClasses (x ∷ y ∷ [])) w
-    pair-backward u = record {
-      most = U.most;
-      known = U.known;
-      lacks = λ q floor B e m h. pair-walk floor B e m (T.never u floor B e m) (U.lacks q floor B e m h);
-      never = λ q floor B e m. pair-walk floor B e m (T.never u floor B e m) (U.never q floor B e m);
-    }
+  pub pair-backward : (t : Trigger) → Idle D (Axiom.SubClassOf x y) → IsTrigger D (Axiom.SubClassOf y x) t → IsTrigger D (Axiom.EquivalentClasses (x ∷ y ∷ [])) t
+  pair-backward (Trigger.Needs k) I U = (U.0, λ floor B e m h. pair-walk floor B e m (I floor B e m) (U.1 floor B e m h))
+  pair-backward Trigger.Always I U = tt
+  pair-backward Trigger.Never I U = λ floor B e m. pair-walk floor B e m (I floor B e m) (U floor B e m)
 
-    pub pair-forward : 4096 < w → Trigger D (Axiom.EquivalentClasses (x ∷ y ∷ [])) v
-    pair-forward u = record {
-      most = T.most;
-      known = T.known;
-      lacks = λ q floor B e m h. pair-walk floor B e m (T.lacks q floor B e m h) (U.never u floor B e m);
-      never = λ q floor B e m. pair-walk floor B e m (T.never q floor B e m) (U.never u floor B e m);
-    }
+  pub pair-forward : (t : Trigger) → IsTrigger D (Axiom.SubClassOf x y) t → Idle D (Axiom.SubClassOf y x) → IsTrigger D (Axiom.EquivalentClasses (x ∷ y ∷ [])) t
+  pair-forward (Trigger.Needs k) T I = (T.0, λ floor B e m h. pair-walk floor B e m (T.1 floor B e m h) (I floor B e m))
+  pair-forward Trigger.Always T I = tt
+  pair-forward Trigger.Never T I = λ floor B e m. pair-walk floor B e m (T floor B e m) (I floor B e m)
 
-    pub pair-both : v ≡ w → Trigger D (Axiom.EquivalentClasses (x ∷ y ∷ [])) v
-    pair-both z = record {
-      most = T.most;
-      known = T.known;
-      lacks = λ q floor B e m h. pair-walk floor B e m (T.lacks q floor B e m h) (U.lacks (rw z at q) floor B e m (rw z at h));
-      never = λ q floor B e m. pair-walk floor B e m (T.never q floor B e m) (U.never (rw z at q) floor B e m);
-    }
+  pub pair-both : (j k : ClassId) → IsTrigger D (Axiom.SubClassOf x y) (Trigger.Needs j) → IsTrigger D (Axiom.SubClassOf y x) (Trigger.Needs k) → j.0 ≡ k.0 → IsTrigger D (Axiom.EquivalentClasses (x ∷ y ∷ [])) (Trigger.Needs j)
+  pair-both j k T U q = (T.0, λ floor B e m h. pair-walk floor B e m (T.1 floor B e m h) (U.1 floor B e m (rw q at h)))
 
 -- a list of two
 pub two-members : (l : List ℕ) → length l ≡ 2 → {x y : ℕ} → x ≡ get_or l 0 0 → y ≡ get_or l 1 0 → x ∷ y ∷ [] ≡ l
@@ -280,68 +287,54 @@ two-members (a ∷ []) h p q = absurd (omega arith)
 two-members (a ∷ b ∷ []) h p q = rw (p, q)
 two-members (a ∷ b ∷ c ∷ l) h p q = absurd (omega arith)
 
--- ---- the table: what it passes over from i on adds nothing
-module _ {D : Deck} {table : List ℕ} {i n r : ℕ} (T : Triggers D table i) (c : n ≡ axiom_count D) (e : r ≡ run_at table n i) where
-  pub run-within : i ≤ n → i + r ≤ n
-  run-within h =
-      ⊎_elim
-      (λ (b : i < n). let y : r ≡ get_or table i 0 - 4096 = e ∙ rw (lt-ltb i n b) in omega (arith, y, c, (T.at i (omega arith) (omega (arith, c))).within))
-      (λ (b : n ≤ i). let y : r ≡ 0 = e ∙ rw (le-ltb i n b) in omega (arith, y))
-      (lt-or-le i n)
+-- ---- the table
+-- so many axioms from i on add nothing
+pub record IdleFrom (D : Deck) (i n : ℕ) : Type 0 where
+  pub within : i + n ≤ axiom_count D
+  pub never : (k : ℕ) → i ≤ k → k < i + n → Idle D (axiom_at D k)
 
-  run-idle : (k : ℕ) → i ≤ k → k < i + r → Idle D (axiom_at D k)
-  run-idle k p q =
-      ⊎_elim
-      (λ (b : i < n). let y : r ≡ get_or table i 0 - 4096 = e ∙ rw (lt-ltb i n b) in (T.at i (omega arith) (omega (arith, c))).never k p (omega (arith, y)))
-      (λ (b : n ≤ i). let y : r ≡ 0 = e ∙ rw (le-ltb i n b) in absurd (omega (arith, y)))
-      (lt-or-le i n)
+pub idle-none : {D : Deck} {n : ℕ} → n ≡ axiom_count D → IdleFrom D n 0
+idle-none e = record { within = omega (arith, e); never = λ k p q. absurd (omega (arith, p, q)) }
 
--- as the code reads it
-module _ (table : List ℕ) (n i : ℕ) where
-  pub run_past : n ≤ i → 0 ≡ run_at table n i
-  run_past h = rw (le-ltb i n h)
+pub idle-entry : {D : Deck} {i w : ℕ} → Entry D i w → IdleFrom D i (w - 4096)
+idle-entry E = record { within = E.within; never = E.never }
 
-  pub run-some : i < n → {r : ℕ} → r ≡ get_or table i 0 - 4096 → r ≡ run_at table n i
-  run-some h e = rw (lt-ltb i n h) e
-
--- an axiom's entry
-module _ {D : Deck} {i w : ℕ} (T : Trigger D (axiom_at D i) w) where
-  pub entry-plain : i < axiom_count D → w ≤ 4096 → Entry D i w
-  entry-plain b h = record { known = T.known; lacks = T.lacks; within = omega arith; never = λ k p q. absurd (omega arith) }
-
-  pub entry-run : {table : List ℕ} {n r : ℕ} → Triggers D table (i + 1) → n ≡ axiom_count D → r ≡ run_at table n (i + 1) → i < n → 4096 < w → Entry D i (4097 + r)
-  entry-run {table} {n} {r} U c e b h = record {
-    known = λ q. absurd (omega arith);
-    lacks = λ q. absurd (omega arith);
-    within = omega (arith, c, run-within U c e (omega arith));
-    never = λ k p q. ⊎_elim (λ (z : i ≡ k). rw z at (T.never h)) (λ (z : i < k). run-idle U c e k (omega arith) (omega arith)) (eq-or-lt_of_le p);
-  }
+-- an axiom's entry, by its trigger and how many after it add nothing
+pub entry-of : {D : Deck} {i n : ℕ} (t : Trigger) → class_count D ≤ 4096 → i < axiom_count D → IsTrigger D (axiom_at D i) t → IdleFrom D (i + 1) n → Entry D i (word_of t n)
+entry-of (Trigger.Needs k) c b T I = record { known = λ q. T.0; lacks = λ q. T.1; within = omega (arith, T.0, c, b); never = λ j p q. absurd (omega (arith, p, q, T.0, c)) }
+entry-of Trigger.Always c b T I = record { known = λ q. absurd (omega arith); lacks = λ q. absurd (omega arith); within = omega arith; never = λ j p q. absurd (omega arith) }
+entry-of {i = i} Trigger.Never c b T I = record {
+  known = λ q. absurd (omega arith);
+  lacks = λ q. absurd (omega arith);
+  within = omega (arith, I.within);
+  never = λ j p q. ⊎_elim (λ (z : i ≡ j). rw z at T) (λ (z : i < j). I.never j (omega arith) (omega (arith, q))) (eq-or-lt_of_le p);
+}
 
 module _ {D : Deck} {table : List ℕ} where
-  pub table_empty : axiom_count D ≤ length table → {n : ℕ} → n ≡ axiom_count D → Triggers D table n
+  pub table_empty : length table ≡ axiom_count D → {n : ℕ} → n ≡ axiom_count D → Triggers D table n
   table_empty h c = record { wide = h; at = λ k p q. absurd (omega (arith, c)) }
 
   -- one more entry in front
-  table_more : {i w : ℕ} → Triggers D table (i + 1) → i < axiom_count D → Entry D i w → Triggers D (set table i w) i
+  pub table_more : {i w : ℕ} → Triggers D table (i + 1) → i < axiom_count D → Entry D i w → Triggers D (set table i w) i
   table_more {i} {w} T b E = record {
-    wide = omega (arith, T.wide, length-set table i w);
+    wide = length-set table i w ∙ T.wide;
     at = λ k p q. ⊎_elim
-        (λ (z : i ≡ k). rw (sym z, get_or-set_same table i w 0 (omega (arith, T.wide))) E)
+        (λ (z : i ≡ k). rw (sym z, get_or-set_same table i w 0 (omega (arith, T.wide, b))) E)
         (λ (z : i < k). rw (get_or-set_other table i k w 0 (λ y. omega (arith, y))) (T.at k (omega arith) q))
         (eq-or-lt_of_le p);
   }
 
-  -- as a loop down from the last axiom meets it
-  pub table-back : {i : ℕ} → 0 < i → Triggers D table i → Triggers D table (i - 1 + 1)
-  table-back {i} h T = let e : i - 1 + 1 ≡ i = omega arith in rw e T
-
-  pub table-next : {i w : ℕ} → 0 < i → Triggers D table i → i ≤ axiom_count D → Entry D (i - 1) w → Triggers D (set table (i - 1) w) (i - 1)
-  table-next h T b E = table_more (table-back h T) (omega arith) E
-
-  pub table-whole : {i : ℕ} → i ≡ 0 → Triggers D table i → Triggers D table 0
-  table-whole e T = rw e at T
-
 -- ---- from one axiom to the next that may add something, at an element of a label
+wide_at : {w : ℕ} {ls : List (List ℕ)} → Wide w ls → (e : ℕ) → e < length ls → length (get_or ls e []) ≡ w
+wide_at none e h = absurd (omega arith)
+wide_at (more p W) zero h = p
+wide_at (more p W) (suc e) h = wide_at W e (omega arith)
+
+pub label-wide : (b : Build) → Ready b → (e : ℕ) → e < b.tally.elements → length (get_or (model_of b).labels e []) ≡ label_width (deck_in b)
+label-wide b P e h =
+    let w = label_width (deck_in b) in
+    wide_at (rows-wide w b.tally.elements b.labels.now (all_fit P)) e (omega (arith, h, length-rows w b.tally.elements b.labels.now))
+
 abbrev Passed : Deck → List ℕ → ℕ → ℕ → Type 0
 Passed D label i j = (k : ℕ) → i ≤ k → k < j → (floor : List ℕ) (B : Bounds) (e : ℕ) (m : Model) → get_or m.labels e [] ≡ label → fire_axiom D floor B e (axiom_at D k) m ≡ m
 
@@ -349,74 +342,63 @@ one_more : (b : Bool) (k n : ℕ) → k < n → k + cond b 0 1 ≤ n
 one_more true k n h = omega arith
 one_more false k n h = omega arith
 
-module _ {D : Deck} {table : List ℕ} (T : Triggers D table 0) {n : ℕ} (c : n ≡ axiom_count D) (labels : List ℕ) {row : ℕ} (e elements : ℕ) (q : row ≡ e * label_width D) (h : e < elements) where
-  entry : (k : ℕ) → k < n → Entry D k (get_or table k 0)
-  entry k b = T.at k (omega arith) (omega (arith, c))
+module _ {D : Deck} {table : List ℕ} (T : Triggers D table 0) (label : List ℕ) where
+  entry : (k : ℕ) → k < length table → Entry D k (get_or table k 0)
+  entry k b = T.at k (omega arith) (omega (arith, T.wide, b))
 
-  step-within : (k : ℕ) → k < n → k + step_in labels row table k ≤ n
+  step-within : (k : ℕ) → k < length table → k + step_in label table k ≤ length table
   step-within k b =
       let w = get_or table k 0 in
       ⊎_elim
-      (λ (l : w < 4096). rw (lt-ltb w 4096 l) (one_more (bit (get_or labels (row + w / 64) 0) (w % 64)) k n b))
-      (λ (l : 4096 ≤ w). rw (le-ltb w 4096 l) (omega (arith, c, (entry k b).within)))
+      (λ (l : w < 4096). rw (lt-ltb w 4096 l) (one_more (label_has label w) k (length table) b))
+      (λ (l : 4096 ≤ w). rw (le-ltb w 4096 l) (omega (arith, T.wide, (entry k b).within)))
       (lt-or-le w 4096)
 
-  pub steps : elements * label_width D ≤ length labels → Steps table labels n row
-  steps r = record {
-    wide = omega (arith, c, T.wide);
-    words = λ k b l. omega (arith, q, r, (entry k b).known l, mul-le-mul_right {m = suc e} {n = elements} (label_width D) h, suc-mul e (label_width D));
-    within = step-within;
-  }
+  pub steps : length label ≡ label_width D → Steps table label
+  steps q = record { words = λ k b l. omega (arith, q, (entry k b).known l); within = step-within }
 
-  class-read : (k : ℕ) → k < class_count D → label_has (get_or (rows_of (label_width D) elements labels) e []) k ≡ bit (get_or labels (row + k / 64) 0) (k % 64)
-  unfolding member_in
-  class-read k b = label-member (label_width D) elements labels e k h (omega arith) ∙ ap (λ (r : ℕ). bit (get_or labels (r + k / 64) 0) (k % 64)) (sym q)
-
-  by-class : (j : ℕ) (b : j < n) → get_or table j 0 < 4096 → (f : Bool) → bit (get_or labels (row + get_or table j 0 / 64) 0) (get_or table j 0 % 64) ≡ f → Passed D (get_or (rows_of (label_width D) elements labels) e []) j (j + cond f 0 1)
+  by-class : (j : ℕ) (b : j < length table) → get_or table j 0 < 4096 → (f : Bool) → label_has label (get_or table j 0) ≡ f → Passed D label j (j + cond f 0 1)
   by-class j b l true z k p u floor B x m y = absurd (omega arith)
   by-class j b l false z k p u floor B x m y =
       let w = get_or table j 0 in
       let same : j ≡ k = omega arith in
-      let E = entry j b in
-      rw (sym same) (E.lacks l floor B x m (ap (λ (a : List ℕ). label_has a w) y ∙ class-read w (E.known l) ∙ z))
+      rw (sym same) ((entry j b).lacks l floor B x m (ap (λ (a : List ℕ). label_has a w) y ∙ z))
 
-  step-passes : (j : ℕ) → j < n → Passed D (get_or (rows_of (label_width D) elements labels) e []) j (j + step_in labels row table j)
+  step-passes : (j : ℕ) → j < length table → Passed D label j (j + step_in label table j)
   step-passes j b =
       let w = get_or table j 0 in
       ⊎_elim
-      (λ (l : w < 4096). rw (lt-ltb w 4096 l) (by-class j b l (bit (get_or labels (row + w / 64) 0) (w % 64)) refl))
+      (λ (l : w < 4096). rw (lt-ltb w 4096 l) (by-class j b l (label_has label w) refl))
       (λ (l : 4096 ≤ w). rw (le-ltb w 4096 l) (λ k p u floor B x m y. (entry j b).never k p u floor B x m))
       (lt-or-le w 4096)
 
-  pub chain-within : {i j : ℕ} → Chain (step_in labels row table) n i j → i ≤ n → (i ≤ j) × (j ≤ n)
+  pub chain-within : {i j : ℕ} → Chain (step_in label table) (length table) i j → i ≤ length table → (i ≤ j) × (j ≤ length table)
   chain-within Chain.here b = (omega arith, b)
   chain-within (Chain.more {j} C l) b = (omega (arith, (chain-within C b).0), step-within j l)
 
-  chain-passes : {i j : ℕ} → Chain (step_in labels row table) n i j → Passed D (get_or (rows_of (label_width D) elements labels) e []) i j
+  chain-passes : {i j : ℕ} → Chain (step_in label table) (length table) i j → Passed D label i j
   chain-passes Chain.here k p u = absurd (omega arith)
   chain-passes (Chain.more {j} C l) k p u = ⊎_elim (λ (v : k < j). chain-passes C k p v) (λ (v : j ≤ k). step-passes j l k v u) (lt-or-le k j)
 
 -- as the code reads a step
-module _ (labels : List ℕ) (row w : ℕ) where
-  pub step_run : 4096 ≤ w → w - 4096 ≡ step_of labels row w
+module _ (label : List ℕ) (w : ℕ) where
+  pub step_run : 4096 ≤ w → w - 4096 ≡ step_of label w
   step_run h = rw (le-ltb w 4096 h)
 
-  pub step-class : w < 4096 → (f : Bool) → f ≡ bit (get_or labels (row + w / 64) 0) (w % 64) → cond f 0 1 ≡ step_of labels row w
-  step-class h f e = rw (lt-ltb w 4096 h, e)
+  pub step-class : w < 4096 → label_has label w ≡ false → 1 ≡ step_of label w
+  step-class h e = rw (lt-ltb w 4096 h, e)
 
-pub row_fits : (e n w : ℕ) {r room : ℕ} → r ≡ w → e < n → n * w ≤ room → e * r ≤ room
-row_fits e n w q h b = rw q (omega (arith, b, mul-le-mul_right {m = suc e} {n = n} w h, suc-mul e w))
+-- the next axiom of a walk, as a later step has it
+pub axiom-step : {a b : Build} → Same a b → (i : ℕ) → i < axiom_count (deck_in a) → drop i (deck_in a).axioms ≡ axiom_at (deck_in b) i ∷ drop (i + 1) (deck_in a).axioms
+axiom-step {a} S i h = rw S.plan (list-step (Axiom.DeclareClass 0) (deck_in a).axioms i h)
 
-pub pass-first : (floor : List ℕ) (e : ℕ) {s : List ℕ} {B : Bounds} {b : Buffers} {t : Tally} {label : List ℕ} → Prepared s B b t floor label → {table : List ℕ} (T : Triggers (deck_of s) table 0) {n : ℕ} (c : n ≡ axiom_count (deck_of s)) {row : ℕ} (q : row ≡ e * label_width (deck_of s)) (h : e < t.elements) {j : ℕ} → Chain (step_in b.labels row table) n 0 j
-    → OnModel (deck_of s) B (fire_axiom (deck_of s) floor B e) (deck_of s).axioms (drop j (deck_of s).axioms) b t b label t
-pass-first floor e {s} {B} {b} {t} P T {n} c q h {j} C = record {
-  built = built-same P;
-  goes = let r = chain-within T c b.labels e t.elements q h C (omega arith) in walk-skip (Axiom.DeclareClass 0) (fire_axiom (deck_of s) floor B e) (deck_of s).axioms _ 0 j r.0 (omega (arith, c, r.1)) (λ k p u. chain-passes T c b.labels e t.elements q h C k p u floor B e _ refl);
-}
-
-pub pass-over : (floor : List ℕ) (e : ℕ) {D : Deck} {B : Bounds} {b : Buffers} {t : Tally} {b₁ : Buffers} {l₁ : List ℕ} {held : Tally} {table : List ℕ} (T : Triggers D table 0) {n : ℕ} (c : n ≡ axiom_count D) {row : ℕ} (q : row ≡ e * label_width D) (h : e < held.elements) {i j : ℕ} → Chain (step_in b₁.labels row table) n (i + 1) j → i < n
-    → OnModel D B (fire_axiom D floor B e) D.axioms (drop (i + 1) D.axioms) b t b₁ l₁ held → OnModel D B (fire_axiom D floor B e) D.axioms (drop j D.axioms) b t b₁ l₁ held
-pass-over floor e {D} {B} {b₁ = b₁} {held = held} T {n} c q h {i} {j} C v G = record {
-  built = G.built;
-  goes = let r = chain-within T c b₁.labels e held.elements q h C (omega arith) in G.goes ∙ walk-skip (Axiom.DeclareClass 0) (fire_axiom D floor B e) D.axioms _ (i + 1) j r.0 (omega (arith, c, r.1)) (λ k p u. chain-passes T c b₁.labels e held.elements q h C k p u floor B e _ refl);
-}
+-- a walk of the axioms at element e passes over what the table does
+module _ {a b : Build} {table : List ℕ} (T : Triggers (deck_in a) table 0) (e : ℕ) {label : List ℕ} (q : label ≡ get_or (model_by a b).labels e []) {i j : ℕ} (C : Chain (step_in label table) (length table) i j) (h : i ≤ length table) where
+  pub pass-over : Walking a (λ p. fire_axiom (deck_of p.deck.bytes.now) p.floor.now p.bounds e) (deck_in a).axioms (drop i (deck_in a).axioms) b → Walking a (λ p. fire_axiom (deck_of p.deck.bytes.now) p.floor.now p.bounds e) (deck_in a).axioms (drop j (deck_in a).axioms) b
+  pass-over W = let far = chain-within T label C h in record {
+    same = W.same;
+    on = record {
+      built = W.on.built;
+      goes = W.on.goes ∙ walk-skip (Axiom.DeclareClass 0) (fire_axiom (deck_in a) a.plan.floor.now a.plan.bounds e) (deck_in a).axioms (model_by a b) i j far.0 (omega (arith, T.wide, far.1)) (λ k p u. chain-passes T label C k p u a.plan.floor.now a.plan.bounds e (model_by a b) (sym q));
+    };
+  }

@@ -1,9 +1,7 @@
 // The phases over a `Build`: until each of them takes one.
 ghost use Rattle.std.specs.Prelude.{◌≡◌, ℕ, ◌+◌, is_err};
-ghost use Rattle.build.specs.Building.{Ready, Holds, Pushed, deck_in, model_of, state_of};
-ghost use Rattle.model.specs.Closing as closing;
+ghost use Rattle.build.specs.Building.{Ready, Holds, deck_in, model_of};
 ghost use Rattle.model.specs.Expand.{expand_in};
-ghost use Rattle.model.specs.Rounds.{expand_from_axioms};
 
 use build::building::{Build, Tripped};
 use build::tally::Step;
@@ -32,45 +30,6 @@ pub fn expand(b: &mut Build<'_, '_>) -> Result<(), Tripped>
         b.plan.floor,
         label,
         labels,
-        edges,
-        log,
-        b.tally,
-    );
-    b.tally = s.tally;
-    result_of(s)
-}
-
-pub fn expand_from_axioms(b: &mut Build<'_, '_>) -> Result<(), Tripped>
-    requires { Ready b.old }
-    ensures { Holds b.old b.new (is_err result) (expand_from_axioms (deck_in b.old) b.old.plan.floor.now b.old.plan.bounds (model_of b.old)) }
-{
-    let label = &mut *b.label;
-    let labels = &mut *b.labels;
-    let edges = &mut *b.edges;
-    let log = &mut *b.log;
-    let s = crate::rounds::expand_from_axioms(
-        b.plan.deck.bytes,
-        b.plan.bounds,
-        b.plan.floor,
-        label,
-        labels,
-        edges,
-        log,
-        b.tally,
-    );
-    b.tally = s.tally;
-    result_of(s)
-}
-
-pub fn close_chains_and_transitivity(b: &mut Build<'_, '_>) -> Result<(), Tripped>
-    requires { closing.Ready b.old.plan.deck.bytes.now b.old.plan.bounds.max_edges b.old.edges.now b.old.tally }
-    ensures { Pushed b.old b.new (is_err result) (closing.close (deck_in b.old) b.old.tally.elements b.old.plan.bounds.max_edges (state_of b.old)) }
-{
-    let edges = &mut *b.edges;
-    let log = &mut *b.log;
-    let s = crate::closing::close_chains_and_transitivity(
-        b.plan.deck.bytes,
-        b.plan.bounds,
         edges,
         log,
         b.tally,

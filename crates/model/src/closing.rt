@@ -4,24 +4,19 @@ ghost use Rattle.deck.specs.Deck.{axiom_at, axiom_count};
 ghost use Rattle.eval.specs.Index.{Indexed};
 ghost use Rattle.build.specs.Building.{HasRoom, Pushed, deck_in, state_of};
 ghost use Rattle.model.specs.Closing as spec;
-ghost use Rattle.model.specs.Closing.{Closes, Ready};
-ghost use Rattle.deck.specs.Content.{deck_of};
-ghost use Rattle.build.specs.Push.{Left, start};
+ghost use Rattle.model.specs.Closing.{Closes};
 ghost use Rattle.model.specs.Ends.{add_ends, is_new};
 ghost use Rattle.model.specs.Rules.{RuleFits};
 
 use crate::ends::{Marks, mark_ends};
 use crate::pairs::{Pairs, count_pairs};
 use crate::rules::{Rule, rule_at};
-use build::bounds::Bounds;
 use build::building::{Build, Tripped};
-use build::plan::Plan;
-use build::tally::{Step, Tally};
+use build::tally::Tally;
 use deck::Deck;
 use deck::numbers::{Element, RoleId};
 use eval::edges::Edge;
 use eval::index::{EdgeIndex, make_index};
-use eval::labels::label_width;
 
 // An edge of v from x to each element that is ahead and not known, rising.
 fn add_ends(b: &mut Build<'_, '_>, v: RoleId, x: Element, marks: &Marks) -> Result<(), Tripped>
@@ -193,41 +188,5 @@ pub fn close_chains_and_transitivity(b: &mut Build<'_, '_>) -> Result<(), Trippe
         if b.tally.edges == before {
             return Ok(());
         }
-    }
-}
-
-// The same over what is lent: until the phases take a `Build`.
-pub fn close_lent<'p, 'a>(
-    deck: &'p [u8],
-    bounds: Bounds,
-    edges: &'a mut [[u32; 3]],
-    log: &'a mut [u32],
-    t: Tally,
-) -> Step
-    requires { Ready deck.now bounds.max_edges edges.old t }
-    ensures { Left bounds.max_edges edges.old log.old t edges.new log.new result (spec.close (deck_of deck.now) t.elements bounds.max_edges (start edges.old log.old t)) }
-{
-    let deck = Deck { bytes: deck };
-    let zeros: [u64; 64] = [0; 64];
-    let floor = &zeros[..label_width(&deck)];
-    let mut label: [u64; 1] = [0; 1];
-    let mut labels: [u64; 1] = [0; 1];
-    let plan = Plan {
-        deck,
-        bounds,
-        floor,
-    };
-    let mut b = Build {
-        plan,
-        label: &mut label,
-        labels: &mut labels,
-        edges,
-        log,
-        tally: t,
-    };
-    let tripped = close_chains_and_transitivity(&mut b).is_err();
-    Step {
-        tally: b.tally,
-        tripped,
     }
 }

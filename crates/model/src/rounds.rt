@@ -1,564 +1,276 @@
-// Rounds of rules over the elements, until a round adds no element.
-ghost use Rattle.std.specs.Prelude.{◌≡◌, true, false, ◌-◌, ◌<◌, ◌≤◌};
-ghost use Rattle.deck.specs.Content.{IsAccepted, deck_of};
+// Rounds of rules over the elements, until a round adds no element. What is asked of an element or of the table of triggers is said of the structure,
+// which every step changes: a struct with an invariant would be made anew for each, and so these are parameters beside it.
+ghost use Rattle.std.specs.Prelude.{◌≡◌, ◌&&◌, ◌<◌, ◌≤◌, [], get_or, is_err, IfOk};
+ghost use Rattle.deck.specs.Accepted.{content};
 ghost use Rattle.deck.specs.Deck.{Axiom, concept_count, axiom_at, axiom_count};
 ghost use Rattle.deck.specs.Reads.{list_of, ListFits};
-ghost use Rattle.atoms.specs.Reasons.{bound_tripped, noted, counted};
+ghost use Rattle.atoms.specs.Antecedent.{is_rule, holds_atoms};
+ghost use Rattle.build.specs.Building.{Ready, Holds, deck_in, model_of, model_by};
 ghost use Rattle.model.specs.Rounds as spec;
-ghost use Rattle.build.specs.Model.{lent, begun, Prepared, Built};
 ghost use Rattle.model.specs.Triggers.{Triggers};
 ghost use Rattle.model.specs.Still.{Stands};
 
 use crate::still::Still;
-use crate::triggers::{may_add, next_axiom, read_triggers, row_of};
-use atoms::bytes::{fill_sizes, fires};
-use atoms::reasons::{Bound, Reason, note};
-use build::bounds::Bounds;
-use build::exists::materialise_exists_sized;
-use build::tally::{Step, Tally, unchanged};
-use deck::axioms::{axiom_at, axiom_count};
-use deck::concepts::concept_count;
+use crate::triggers::{may_add, next_axiom, read_triggers};
+use atoms::antecedent;
+use atoms::labels::label_at;
+use atoms::lists::member;
+use atoms::reasons::{Bound, Reason};
+use atoms::visits::fill_sizes;
+use build::building::{Build, Tripped};
+use deck::Deck;
 use deck::numbers::{ConceptId, Element};
-use deck::rows::{Span, item};
+use deck::rows::Span;
+
+// The label of element e.
+#[inline(always)]
+fn label_of<'b>(b: &'b Build<'_, '_>, e: Element) -> &'b [u64]
+    requires ready { Ready b.now }
+    requires e_lt_elements { e.0 < b.now.tally.elements }
+    ensures { result.now ≡ get_or (model_of b.now).labels e.0 [] }
+{
+    let deck = b.plan.deck;
+    label_at(&deck, b.labels, b.tally.elements, e)
+}
+
+// Does a rule with this antecedent fire at element e?
+#[inline(always)]
+fn fires(b: &Build<'_, '_>, ante: ConceptId, e: Element) -> bool
+    requires ready { Ready b.now }
+    requires ante_bound { ante.0 < concept_count (deck_in b.now) }
+    requires e_lt_elements { e.0 < b.now.tally.elements }
+    ensures { result ≡ (holds_atoms (deck_in b.now) (get_or (model_of b.now).labels e.0 []) ante.0 && is_rule (deck_in b.now) ante.0) }
+{
+    let deck = b.plan.deck;
+    antecedent::fires(&deck, label_of(b, e), ante)
+}
 
 // A rule at element e.
 fn fire(
-    deck: &[u8],
-    bounds: Bounds,
-    floor: &[u64],
-    label: &mut [u64],
-    labels: &mut [u64],
-    edges: &mut [[u32; 3]],
-    log: &mut [u32],
+    b: &mut Build<'_, '_>,
     sizes: &[u8],
-    t: Tally,
     ante: ConceptId,
     sup: ConceptId,
     e: Element,
-) -> Step
-    requires prepared { Prepared deck.now bounds (lent labels.old edges.old log.old) t floor.now label.old }
-    requires ante_bound { ante.0 < concept_count (deck_of deck.now) }
-    requires sup_bound { sup.0 < concept_count (deck_of deck.now) }
-    requires e_lt_elements { e.0 < t.elements }
-    ensures { Built (deck_of deck.now) bounds (lent labels.old edges.old log.old) t (lent labels.new edges.new log.new) label.new result
-        (spec.fire (deck_of deck.now) floor.now bounds e.0 ante.0 sup.0 (begun (deck_of deck.now) (lent labels.old edges.old log.old) t)) }
+) -> Result<(), Tripped>
+    requires ready { Ready b.old }
+    requires ante_bound { ante.0 < concept_count (deck_in b.old) }
+    requires sup_bound { sup.0 < concept_count (deck_in b.old) }
+    requires e_lt_elements { e.0 < b.old.tally.elements }
+    ensures { Holds b.old b.new (is_err result) (spec.fire (deck_in b.old) b.old.plan.floor.now b.old.plan.bounds e.0 ante.0 sup.0 (model_of b.old)) }
 {
-    if fires(deck, labels, t.elements, e, ante) {
-        return materialise_exists_sized(
-            deck, bounds, floor, label, labels, edges, log, sizes, t, sup, e,
-        );
+    if fires(b, ante, e) {
+        return b.materialise_exists(sizes, sup, e);
     }
-    Step::quiet(t)
+    Ok(())
 }
 
 // A pair of members of EquivalentClasses, where their concept numbers differ and the second may add something.
 fn fire_pair(
-    deck: &[u8],
-    bounds: Bounds,
-    floor: &[u64],
-    label: &mut [u64],
-    labels: &mut [u64],
-    edges: &mut [[u32; 3]],
-    log: &mut [u32],
+    b: &mut Build<'_, '_>,
     sizes: &[u8],
-    t: Tally,
-    a: ConceptId,
-    b: ConceptId,
+    ante: ConceptId,
+    sup: ConceptId,
     e: Element,
-) -> Step
-    requires prepared { Prepared deck.now bounds (lent labels.old edges.old log.old) t floor.now label.old }
-    requires a_bound { a.0 < concept_count (deck_of deck.now) }
-    requires b_bound { b.0 < concept_count (deck_of deck.now) }
-    requires e_lt_elements { e.0 < t.elements }
-    ensures { Built (deck_of deck.now) bounds (lent labels.old edges.old log.old) t (lent labels.new edges.new log.new) label.new result
-        (spec.fire_pair (deck_of deck.now) floor.now bounds e.0 a.0 b.0 (begun (deck_of deck.now) (lent labels.old edges.old log.old) t)) }
+) -> Result<(), Tripped>
+    requires ready { Ready b.old }
+    requires ante_bound { ante.0 < concept_count (deck_in b.old) }
+    requires sup_bound { sup.0 < concept_count (deck_in b.old) }
+    requires e_lt_elements { e.0 < b.old.tally.elements }
+    ensures { Holds b.old b.new (is_err result) (spec.fire_pair (deck_in b.old) b.old.plan.floor.now b.old.plan.bounds e.0 ante.0 sup.0 (model_of b.old)) }
 {
-    if a.0 == b.0 {
-        return Step::quiet(t);
+    let deck = b.plan.deck;
+    if ante == sup || !may_add(&deck, sup) {
+        return Ok(());
     }
-    if may_add(deck, b) {
-        return fire(
-            deck, bounds, floor, label, labels, edges, log, sizes, t, a, b, e,
-        );
-    }
-    Step::quiet(t)
+    fire(b, sizes, ante, sup, e)
 }
 
 // From one member to each.
 fn fire_from(
-    deck: &[u8],
-    bounds: Bounds,
-    floor: &[u64],
-    label: &mut [u64],
-    labels: &mut [u64],
-    edges: &mut [[u32; 3]],
-    log: &mut [u32],
+    b: &mut Build<'_, '_>,
     sizes: &[u8],
-    t: Tally,
     list: Span,
-    a: ConceptId,
+    ante: ConceptId,
     e: Element,
-) -> Step
-    requires prepared { Prepared deck.now bounds (lent labels.old edges.old log.old) t floor.now label.old }
-    requires list_fits { ListFits deck.now (concept_count (deck_of deck.now)) list }
-    requires a_bound { a.0 < concept_count (deck_of deck.now) }
-    requires e_lt_elements { e.0 < t.elements }
-    ensures { Built (deck_of deck.now) bounds (lent labels.old edges.old log.old) t (lent labels.new edges.new log.new) label.new result
-        (spec.fire_from (deck_of deck.now) floor.now bounds e.0 (list_of deck.now list) a.0 (begun (deck_of deck.now) (lent labels.old edges.old log.old) t)) }
+) -> Result<(), Tripped>
+    requires ready { Ready b.old }
+    requires list_fits { ListFits b.old.plan.deck.bytes.now (concept_count (deck_in b.old)) list }
+    requires ante_bound { ante.0 < concept_count (deck_in b.old) }
+    requires e_lt_elements { e.0 < b.old.tally.elements }
+    ensures { Holds b.old b.new (is_err result) (spec.fire_from (deck_in b.old) b.old.plan.floor.now b.old.plan.bounds e.0 (list_of b.old.plan.deck.bytes.now list) ante.0 (model_of b.old)) }
 {
-    let count = list.count;
-    let mut i = 0;
-    let mut held = t;
-    while i < count {
-        let s = fire_pair(
-            deck,
-            bounds,
-            floor,
-            label,
-            labels,
-            edges,
-            log,
-            sizes,
-            held,
-            a,
-            ConceptId(item(deck, list, i)),
-            e,
-        );
-        let tripped = s.tripped;
-        if tripped {
-            return s;
-        }
-        held = s.tally;
-        i += 1;
+    let deck = b.plan.deck;
+    for i in 0..list.count {
+        fire_pair(b, sizes, ante, member(&deck, list, i), e)?;
     }
-    Step::quiet(held)
+    Ok(())
 }
 
-// The step of a member's pairs, and what is known of the members after it.
-#[derive(Clone, Copy)]
-pub struct Turn {
-    pub step: Step,
-    pub still: Still,
-}
-
-// From one member to each, where it fires at all and may change something.
+// From one member to each, where it fires at all and may change something; what is known of the members after it.
 fn fire_member(
-    deck: &[u8],
-    bounds: Bounds,
-    floor: &[u64],
-    label: &mut [u64],
-    labels: &mut [u64],
-    edges: &mut [[u32; 3]],
-    log: &mut [u32],
+    b: &mut Build<'_, '_>,
     sizes: &[u8],
-    t: Tally,
     list: Span,
-    a: ConceptId,
+    ante: ConceptId,
     e: Element,
     still: Still,
-) -> Turn
-    requires prepared { Prepared deck.now bounds (lent labels.old edges.old log.old) t floor.now label.old }
-    requires list_fits { ListFits deck.now (concept_count (deck_of deck.now)) list }
-    requires a_bound { a.0 < concept_count (deck_of deck.now) }
-    requires e_lt_elements { e.0 < t.elements }
-    requires stands_2 { Stands (deck_of deck.now) floor.now bounds e.0 (list_of deck.now list) still (begun (deck_of deck.now) (lent labels.old edges.old log.old) t) }
-    ensures built { Built (deck_of deck.now) bounds (lent labels.old edges.old log.old) t (lent labels.new edges.new log.new) label.new result.step
-        (spec.fire_from (deck_of deck.now) floor.now bounds e.0 (list_of deck.now list) a.0 (begun (deck_of deck.now) (lent labels.old edges.old log.old) t)) }
-    ensures stands { result.step.tripped ≡ false → Stands (deck_of deck.now) floor.now bounds e.0 (list_of deck.now list) result.still (begun (deck_of deck.now) (lent labels.new edges.new log.new) result.step.tally) }
+) -> Result<Still, Tripped>
+    requires ready { Ready b.old }
+    requires list_fits { ListFits b.old.plan.deck.bytes.now (concept_count (deck_in b.old)) list }
+    requires ante_bound { ante.0 < concept_count (deck_in b.old) }
+    requires e_lt_elements { e.0 < b.old.tally.elements }
+    requires stands { Stands (deck_in b.old) b.old.plan.floor.now b.old.plan.bounds e.0 (list_of b.old.plan.deck.bytes.now list) still (model_of b.old) }
+    ensures holds { Holds b.old b.new (is_err result) (spec.fire_from (deck_in b.old) b.old.plan.floor.now b.old.plan.bounds e.0 (list_of b.old.plan.deck.bytes.now list) ante.0 (model_of b.old)) }
+    ensures stands { IfOk result (λ still. Stands (deck_in b.old) b.old.plan.floor.now b.old.plan.bounds e.0 (list_of b.old.plan.deck.bytes.now list) still (model_by b.old b.new)) }
 {
-    if still.passes(a) {
-        return Turn {
-            step: Step::quiet(t),
-            still,
-        };
+    if still.passes(ante) || !fires(b, ante, e) {
+        return Ok(still);
     }
-    if fires(deck, labels, t.elements, e, a) {
-        let step = fire_from(
-            deck, bounds, floor, label, labels, edges, log, sizes, t, list, a, e,
-        );
-        let same = unchanged(t, step.tally);
-        return Turn {
-            step,
-            still: still.after(a, same),
-        };
-    }
-    Turn {
-        step: Step::quiet(t),
-        still,
-    }
+    let held = b.tally;
+    fire_from(b, sizes, list, ante, e)?;
+    Ok(still.after(ante, held == b.tally))
 }
 
 // From each member to each, until none would change anything.
 fn fire_equivalent(
-    deck: &[u8],
-    bounds: Bounds,
-    floor: &[u64],
-    label: &mut [u64],
-    labels: &mut [u64],
-    edges: &mut [[u32; 3]],
-    log: &mut [u32],
+    b: &mut Build<'_, '_>,
     sizes: &[u8],
-    t: Tally,
     list: Span,
     e: Element,
-) -> Step
-    requires prepared { Prepared deck.now bounds (lent labels.old edges.old log.old) t floor.now label.old }
-    requires list_fits { ListFits deck.now (concept_count (deck_of deck.now)) list }
-    requires e_lt_elements { e.0 < t.elements }
-    ensures { Built (deck_of deck.now) bounds (lent labels.old edges.old log.old) t (lent labels.new edges.new log.new) label.new result
-        (spec.fire_axiom (deck_of deck.now) floor.now bounds e.0 (Axiom.EquivalentClasses (list_of deck.now list)) (begun (deck_of deck.now) (lent labels.old edges.old log.old) t)) }
+) -> Result<(), Tripped>
+    requires ready { Ready b.old }
+    requires list_fits { ListFits b.old.plan.deck.bytes.now (concept_count (deck_in b.old)) list }
+    requires e_lt_elements { e.0 < b.old.tally.elements }
+    ensures { Holds b.old b.new (is_err result) (spec.fire_axiom (deck_in b.old) b.old.plan.floor.now b.old.plan.bounds e.0 (Axiom.EquivalentClasses (list_of b.old.plan.deck.bytes.now list)) (model_of b.old)) }
 {
-    let count = list.count;
-    let mut i = 0;
-    let mut held = t;
+    let deck = b.plan.deck;
     let mut still = Still::Unknown;
-    while i < count {
-        let a = ConceptId(item(deck, list, i));
-        let turn = fire_member(
-            deck, bounds, floor, label, labels, edges, log, sizes, held, list, a, e, still,
-        );
-        let s = turn.step;
-        let tripped = s.tripped;
-        if tripped {
-            return s;
-        }
-        held = s.tally;
-        still = turn.still;
-        i += 1;
+    for i in 0..list.count {
+        still = fire_member(b, sizes, list, member(&deck, list, i), e, still)?;
     }
-    Step::quiet(held)
+    Ok(())
 }
 
 // An axiom's rules at element e.
-fn fire_axiom(
-    deck: &[u8],
-    bounds: Bounds,
-    floor: &[u64],
-    label: &mut [u64],
-    labels: &mut [u64],
-    edges: &mut [[u32; 3]],
-    log: &mut [u32],
-    sizes: &[u8],
-    t: Tally,
-    axiom: u32,
-    e: Element,
-) -> Step
-    requires prepared { Prepared deck.now bounds (lent labels.old edges.old log.old) t floor.now label.old }
-    requires axiom_bound { «axiom» < axiom_count (deck_of deck.now) }
-    requires e_lt_elements { e.0 < t.elements }
-    ensures { Built (deck_of deck.now) bounds (lent labels.old edges.old log.old) t (lent labels.new edges.new log.new) label.new result
-        (spec.fire_axiom (deck_of deck.now) floor.now bounds e.0 (axiom_at (deck_of deck.now) «axiom») (begun (deck_of deck.now) (lent labels.old edges.old log.old) t)) }
+fn fire_axiom(b: &mut Build<'_, '_>, sizes: &[u8], axiom: u32, e: Element) -> Result<(), Tripped>
+    requires ready { Ready b.old }
+    requires axiom_bound { «axiom» < axiom_count (deck_in b.old) }
+    requires e_lt_elements { e.0 < b.old.tally.elements }
+    ensures { Holds b.old b.new (is_err result) (spec.fire_axiom (deck_in b.old) b.old.plan.floor.now b.old.plan.bounds e.0 (axiom_at (deck_in b.old) «axiom») (model_of b.old)) }
 {
-    let record = axiom_at(deck, axiom);
-    let tag = record.tag;
+    let deck = b.plan.deck;
+    let record = deck.axiom_at(axiom);
     let x = record.first;
     let y = record.second;
-    match tag {
-        0 => fire(
-            deck,
-            bounds,
-            floor,
-            label,
-            labels,
-            edges,
-            log,
-            sizes,
-            t,
-            ConceptId(x),
-            ConceptId(y),
-            e,
-        ),
-        1 => fire_equivalent(
-            deck,
-            bounds,
-            floor,
-            label,
-            labels,
-            edges,
-            log,
-            sizes,
-            t,
-            Span { start: x, count: y },
-            e,
-        ),
-        _ => Step::quiet(t),
+    match record.tag {
+        0 => fire(b, sizes, ConceptId(x), ConceptId(y), e),
+        1 => fire_equivalent(b, sizes, Span { start: x, count: y }, e),
+        _ => Ok(()),
     }
 }
 
-// All rules at element e: from one axiom that may add something to the next.
-fn visit(
-    deck: &[u8],
-    bounds: Bounds,
-    floor: &[u64],
-    triggers: &[u32],
-    label: &mut [u64],
-    labels: &mut [u64],
-    edges: &mut [[u32; 3]],
-    log: &mut [u32],
-    sizes: &[u8],
-    t: Tally,
-    e: Element,
-) -> Step
-    requires prepared { Prepared deck.now bounds (lent labels.old edges.old log.old) t floor.now label.old }
-    requires e_lt_elements { e.0 < t.elements }
-    requires triggers { Triggers (deck_of deck.now) triggers.now 0 }
-    ensures { Built (deck_of deck.now) bounds (lent labels.old edges.old log.old) t (lent labels.new edges.new log.new) label.new result
-        (spec.visit (deck_of deck.now) floor.now bounds e.0 (begun (deck_of deck.now) (lent labels.old edges.old log.old) t)) }
+// All rules at element e: from one axiom that may add something to the next. The table jumps, and what fires has all of b, so that no iterator holds the label.
+fn visit(b: &mut Build<'_, '_>, triggers: &[u32], sizes: &[u8], e: Element) -> Result<(), Tripped>
+    requires ready { Ready b.old }
+    requires triggers { Triggers (deck_in b.old) triggers.now 0 }
+    requires e_lt_elements { e.0 < b.old.tally.elements }
+    ensures { Holds b.old b.new (is_err result) (spec.visit (deck_in b.old) b.old.plan.floor.now b.old.plan.bounds e.0 (model_of b.old)) }
 {
-    let count = axiom_count(deck);
-    let row = row_of(deck, labels.len(), t.elements, e);
-    let mut i = next_axiom(labels, row, triggers, count, 0);
-    let mut held = t;
-    while i < count {
-        let s = fire_axiom(
-            deck, bounds, floor, label, labels, edges, log, sizes, held, i, e,
-        );
-        let tripped = s.tripped;
-        if tripped {
-            return s;
-        }
-        held = s.tally;
-        i = next_axiom(labels, row, triggers, count, i + 1);
+    let mut first = 0;
+    while let Some(axiom) = next_axiom(label_of(b, e), triggers, first) {
+        fire_axiom(b, sizes, axiom, e)?;
+        first = axiom + 1;
     }
-    Step::quiet(held)
+    Ok(())
 }
 
 // Every element that is present when the round begins.
-fn round(
-    deck: &[u8],
-    bounds: Bounds,
-    floor: &[u64],
-    triggers: &[u32],
-    label: &mut [u64],
-    labels: &mut [u64],
-    edges: &mut [[u32; 3]],
-    log: &mut [u32],
-    sizes: &[u8],
-    t: Tally,
-) -> Step
-    requires prepared { Prepared deck.now bounds (lent labels.old edges.old log.old) t floor.now label.old }
-    requires triggers { Triggers (deck_of deck.now) triggers.now 0 }
-    ensures { Built (deck_of deck.now) bounds (lent labels.old edges.old log.old) t (lent labels.new edges.new log.new) label.new result
-        (spec.round (deck_of deck.now) floor.now bounds (begun (deck_of deck.now) (lent labels.old edges.old log.old) t)) }
+fn round(b: &mut Build<'_, '_>, triggers: &[u32], sizes: &[u8]) -> Result<(), Tripped>
+    requires ready { Ready b.old }
+    requires triggers { Triggers (deck_in b.old) triggers.now 0 }
+    ensures { Holds b.old b.new (is_err result) (spec.round (deck_in b.old) b.old.plan.floor.now b.old.plan.bounds (model_of b.old)) }
 {
-    let count = t.elements;
-    let mut i: u32 = 0;
-    let mut held = t;
-    while i < count {
-        let e = Element(i);
-        let s = visit(
-            deck, bounds, floor, triggers, label, labels, edges, log, sizes, held, e,
-        );
-        let tripped = s.tripped;
-        if tripped {
-            return s;
-        }
-        held = s.tally;
-        i += 1;
+    for i in 0..b.tally.elements {
+        visit(b, triggers, sizes, Element(i))?;
     }
-    Step::quiet(held)
+    Ok(())
 }
 
-// The rounds that may follow the first.
-fn later_rounds(most: u32) -> u32
-    ensures { result ≡ most - 1 }
+// The rounds, with the table of triggers: a first one, whatever their bound.
+fn rounds_by(b: &mut Build<'_, '_>, triggers: &[u32], sizes: &[u8]) -> Result<(), Tripped>
+    requires ready { Ready b.old }
+    requires triggers { Triggers (deck_in b.old) triggers.now 0 }
+    ensures { Holds b.old b.new (is_err result) (spec.expand_from_axioms (deck_in b.old) b.old.plan.floor.now b.old.plan.bounds (model_of b.old)) }
 {
-    if most == 0 {
-        return 0;
-    }
-    most - 1
-}
-
-// The bound on rounds trips.
-fn trip_rounds(log: &mut [u32], limit: u32, t: Tally) -> Step
-    ensures { (log.new ≡ noted log.old t.reasons (bound_tripped 2 limit)) × (result ≡ record { tally = record { elements = t.elements; edges = t.edges; reasons = counted t.reasons }; tripped = true }) }
-{
-    let reason = Reason::bound_tripped(Bound::Rounds, limit);
-    let reasons = note(log, t.reasons, reason);
-    Step::tripping(t.with_reasons(reasons))
-}
-
-// The rounds, with the table of triggers.
-fn rounds_by(
-    deck: &[u8],
-    bounds: Bounds,
-    floor: &[u64],
-    triggers: &[u32],
-    label: &mut [u64],
-    labels: &mut [u64],
-    edges: &mut [[u32; 3]],
-    log: &mut [u32],
-    sizes: &[u8],
-    t: Tally,
-) -> Step
-    requires prepared { Prepared deck.now bounds (lent labels.old edges.old log.old) t floor.now label.old }
-    requires triggers { Triggers (deck_of deck.now) triggers.now 0 }
-    ensures { Built (deck_of deck.now) bounds (lent labels.old edges.old log.old) t (lent labels.new edges.new log.new) label.new result
-        (spec.expand_from_axioms (deck_of deck.now) floor.now bounds (begun (deck_of deck.now) (lent labels.old edges.old log.old) t)) }
-{
-    let mut left = later_rounds(bounds.max_rounds);
-    let mut held = t;
-    loop {
-        let s = round(
-            deck, bounds, floor, triggers, label, labels, edges, log, sizes, held,
-        );
-        let tripped = s.tripped;
-        if tripped {
-            return s;
+    let limit = b.plan.bounds.max_rounds;
+    for _ in 0..limit.max(1) {
+        let count = b.tally.elements;
+        round(b, triggers, sizes)?;
+        if b.tally.elements == count {
+            return Ok(());
         }
-        let grown = s.tally;
-        if grown.elements == held.elements {
-            return s;
-        }
-        if left == 0 {
-            return trip_rounds(log, bounds.max_rounds, grown);
-        }
-        held = grown;
-        left -= 1;
     }
+    b.note(Reason::bound_tripped(Bound::Rounds, limit));
+    Err(Tripped)
 }
 
-// Rounds of at most 512 axioms: a table that costs little to clear.
-fn rounds_of_few(
-    deck: &[u8],
-    bounds: Bounds,
-    floor: &[u64],
-    label: &mut [u64],
-    labels: &mut [u64],
-    edges: &mut [[u32; 3]],
-    log: &mut [u32],
-    sizes: &[u8],
-    t: Tally,
-) -> Step
-    requires prepared { Prepared deck.now bounds (lent labels.old edges.old log.old) t floor.now label.old }
-    requires deck_bound { axiom_count (deck_of deck.now) ≤ 512 }
-    ensures { Built (deck_of deck.now) bounds (lent labels.old edges.old log.old) t (lent labels.new edges.new log.new) label.new result
-        (spec.expand_from_axioms (deck_of deck.now) floor.now bounds (begun (deck_of deck.now) (lent labels.old edges.old log.old) t)) }
+// The rounds of up to N axioms: the room of their table is made in a frame of its own.
+#[inline(never)]
+fn rounds_of<const N: usize>(b: &mut Build<'_, '_>, sizes: &[u8]) -> Result<(), Tripped>
+    requires words { N ≤ 16384 }
+    requires ready { Ready b.old }
+    requires deck_bound { axiom_count (deck_in b.old) ≤ N }
+    ensures { Holds b.old b.new (is_err result) (spec.expand_from_axioms (deck_in b.old) b.old.plan.floor.now b.old.plan.bounds (model_of b.old)) }
 {
-    let mut triggers: [u32; 512] = [0; 512];
-    read_triggers(deck, &mut triggers);
-    rounds_by(
-        deck, bounds, floor, &triggers, label, labels, edges, log, sizes, t,
-    )
+    let mut table: [u32; N] = [0; N];
+    let deck = b.plan.deck;
+    let triggers = &mut table[..deck.axiom_count() as usize];
+    read_triggers(&deck, triggers);
+    rounds_by(b, triggers, sizes)
 }
 
-// Rounds of any number of axioms. The last call is never made, as there are at most 65,536 elements: a function that calls itself has a frame of its own, so that its room is made only where it is needed.
-fn rounds_of_many(
-    deck: &[u8],
-    bounds: Bounds,
-    floor: &[u64],
-    label: &mut [u64],
-    labels: &mut [u64],
-    edges: &mut [[u32; 3]],
-    log: &mut [u32],
-    sizes: &[u8],
-    t: Tally,
-) -> Step
-    requires prepared { Prepared deck.now bounds (lent labels.old edges.old log.old) t floor.now label.old }
-    requires deck_bound { axiom_count (deck_of deck.now) ≤ 16384 }
-    ensures { Built (deck_of deck.now) bounds (lent labels.old edges.old log.old) t (lent labels.new edges.new log.new) label.new result
-        (spec.expand_from_axioms (deck_of deck.now) floor.now bounds (begun (deck_of deck.now) (lent labels.old edges.old log.old) t)) }
+// Rounds with a table of sizes, as far as it reaches. A table of few triggers costs little to clear.
+fn rounds_with(b: &mut Build<'_, '_>, sizes: &[u8]) -> Result<(), Tripped>
+    requires { Ready b.old }
+    ensures { Holds b.old b.new (is_err result) (spec.expand_from_axioms (deck_in b.old) b.old.plan.floor.now b.old.plan.bounds (model_of b.old)) }
 {
-    let mut triggers: [u32; 16384] = [0; 16384];
-    read_triggers(deck, &mut triggers);
-    let s = rounds_by(
-        deck, bounds, floor, &triggers, label, labels, edges, log, sizes, t,
-    );
-    if 65536 < t.elements {
-        return rounds_of_many(deck, bounds, floor, label, labels, edges, log, sizes, t);
+    let deck = b.plan.deck;
+    if deck.axiom_count() <= 512 {
+        return rounds_of::<512>(b, sizes);
     }
-    s
+    rounds_of::<16384>(b, sizes)
+}
+
+// Rounds with the sizes of the first N concepts.
+#[inline(never)]
+fn rounds_sized<const N: usize>(b: &mut Build<'_, '_>) -> Result<(), Tripped>
+    requires words { N ≤ 16384 }
+    requires ready { Ready b.old }
+    ensures { Holds b.old b.new (is_err result) (spec.expand_from_axioms (deck_in b.old) b.old.plan.floor.now b.old.plan.bounds (model_of b.old)) }
+{
+    let mut sizes: [u8; N] = [0; N];
+    let deck = b.plan.deck;
+    fill_sizes(&deck, &mut sizes);
+    rounds_with(b, &sizes)
 }
 
 // Is the table of sizes worth its making: are there eight and more pairs of an element and an axiom for each concept?
-fn is_worth(deck: &[u8], elements: u32) -> bool
-    requires { IsAccepted deck.now }
-{
+fn is_worth(deck: &Deck, elements: u32) -> bool {
     if elements == 0 {
         return false;
     }
-    let concepts = concept_count(deck);
-    (8 * concepts + 4096) / elements < axiom_count(deck)
-}
-
-// Rounds with a table of sizes, as far as it reaches.
-fn rounds_with(
-    deck: &[u8],
-    bounds: Bounds,
-    floor: &[u64],
-    label: &mut [u64],
-    labels: &mut [u64],
-    edges: &mut [[u32; 3]],
-    log: &mut [u32],
-    sizes: &[u8],
-    t: Tally,
-) -> Step
-    requires { Prepared deck.now bounds (lent labels.old edges.old log.old) t floor.now label.old }
-    ensures { Built (deck_of deck.now) bounds (lent labels.old edges.old log.old) t (lent labels.new edges.new log.new) label.new result
-        (spec.expand_from_axioms (deck_of deck.now) floor.now bounds (begun (deck_of deck.now) (lent labels.old edges.old log.old) t)) }
-{
-    if axiom_count(deck) <= 512 {
-        return rounds_of_few(deck, bounds, floor, label, labels, edges, log, sizes, t);
-    }
-    rounds_of_many(deck, bounds, floor, label, labels, edges, log, sizes, t)
-}
-
-// Rounds with the sizes of all concepts.
-fn rounds_sized(
-    deck: &[u8],
-    bounds: Bounds,
-    floor: &[u64],
-    label: &mut [u64],
-    labels: &mut [u64],
-    edges: &mut [[u32; 3]],
-    log: &mut [u32],
-    t: Tally,
-) -> Step
-    requires { Prepared deck.now bounds (lent labels.old edges.old log.old) t floor.now label.old }
-    ensures { Built (deck_of deck.now) bounds (lent labels.old edges.old log.old) t (lent labels.new edges.new log.new) label.new result
-        (spec.expand_from_axioms (deck_of deck.now) floor.now bounds (begun (deck_of deck.now) (lent labels.old edges.old log.old) t)) }
-{
-    let mut sizes: [u8; 16384] = [0; 16384];
-    fill_sizes(deck, &mut sizes);
-    rounds_with(deck, bounds, floor, label, labels, edges, log, &sizes, t)
-}
-
-// Rounds with no size but that of concept 0.
-fn rounds_unsized(
-    deck: &[u8],
-    bounds: Bounds,
-    floor: &[u64],
-    label: &mut [u64],
-    labels: &mut [u64],
-    edges: &mut [[u32; 3]],
-    log: &mut [u32],
-    t: Tally,
-) -> Step
-    requires { Prepared deck.now bounds (lent labels.old edges.old log.old) t floor.now label.old }
-    ensures { Built (deck_of deck.now) bounds (lent labels.old edges.old log.old) t (lent labels.new edges.new log.new) label.new result
-        (spec.expand_from_axioms (deck_of deck.now) floor.now bounds (begun (deck_of deck.now) (lent labels.old edges.old log.old) t)) }
-{
-    let sizes: [u8; 1] = [1; 1];
-    rounds_with(deck, bounds, floor, label, labels, edges, log, &sizes, t)
+    (8 * deck.concept_count() + 4096) / elements < deck.axiom_count()
 }
 
 // Rounds until one adds no element or trips a bound.
-pub fn expand_from_axioms(
-    deck: &[u8],
-    bounds: Bounds,
-    floor: &[u64],
-    label: &mut [u64],
-    labels: &mut [u64],
-    edges: &mut [[u32; 3]],
-    log: &mut [u32],
-    t: Tally,
-) -> Step
-    requires { Prepared deck.now bounds (lent labels.old edges.old log.old) t floor.now label.old }
-    ensures { Built (deck_of deck.now) bounds (lent labels.old edges.old log.old) t (lent labels.new edges.new log.new) label.new result
-        (spec.expand_from_axioms (deck_of deck.now) floor.now bounds (begun (deck_of deck.now) (lent labels.old edges.old log.old) t)) }
+pub fn expand_from_axioms(b: &mut Build<'_, '_>) -> Result<(), Tripped>
+    requires { Ready b.old }
+    ensures { Holds b.old b.new (is_err result) (spec.expand_from_axioms (deck_in b.old) b.old.plan.floor.now b.old.plan.bounds (model_of b.old)) }
 {
-    if is_worth(deck, t.elements) {
-        return rounds_sized(deck, bounds, floor, label, labels, edges, log, t);
+    let deck = b.plan.deck;
+    if is_worth(&deck, b.tally.elements) {
+        return rounds_sized::<16384>(b);
     }
-    rounds_unsized(deck, bounds, floor, label, labels, edges, log, t)
+    rounds_sized::<1>(b)
 }

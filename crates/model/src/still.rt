@@ -5,7 +5,7 @@ ghost use Rattle.model.specs.Still.{passes, after};
 use deck::numbers::ConceptId;
 
 // What is known: nothing; that no member of another number would change anything; that none would.
-#[derive(Clone, Copy)]
+#[derive(Clone, Copy, PartialEq, Eq)]
 pub enum Still {
     Unknown,
     Others(ConceptId),
@@ -19,7 +19,7 @@ impl Still {
     {
         match self {
             Still::Unknown => false,
-            Still::Others(b) => a.0 == b.0,
+            Still::Others(b) => a == b,
             Still::All => true,
         }
     }

@@ -1,91 +1,32 @@
-use mathlib.Core.Path.{refl, sym, ◌∙◌}
-use native.Mathlib.Omega.{arith}
-use Rattle.model.specs.Rounds.{expand_from_axioms}
-use Rattle.build.proofs.BuildLaws.{built-trans, built-trip, prepared-after}
-use Rattle.model.proofs.RoundLaws.{labels-size, rounding-start, rounding-trip, rounding-still, rounding-last, rounding-more}
+use Rattle.std.proofs.Common.{◌≡◌, ◌+◌, ◌-◌, refl, arith}
+use Rattle.std.proofs.lemmas.Result.{err_from_is_err_and}
+use Rattle.model.proofs.RoundLaws.{rounding-start, rounding-ready, rounding-trip, rounding-still, rounding-more, rounding-last}
 use Rattle.model.proofs.rounds.rounds_by.Goals as goal
 
-pub loop-bounds-init : goal.loop-bounds-init
-loop-bounds-init c =
-    rounding-start c.requires.prepared c.later_rounds-left.ensures
+pub loop-init : goal.loop-init
+loop-init c =
+    rounding-start c.requires.ready (omega (arith, c.max-end.ensures))
 
-pub round-s-requires : goal.round-s-requires
-round-s-requires c =
-    record { prepared = prepared-after c.requires.prepared c.loop-bounds.invariant.built refl; triggers = c.requires.triggers }
+pub round-requires-clause-ready : goal.round-requires-clause-ready
+round-requires-clause-ready c =
+    rounding-ready c.loop.invariant c.requires.ready
 
-pub shape_of-label-then-tripped : goal.shape_of-label-then-tripped
-shape_of-label-then-tripped c =
-    c.round-s.ensures.wide ∙ sym c.requires.prepared.label-wide
+pub returns-in_err-round : goal.returns-in_err-round
+returns-in_err-round c =
+    let z = err_from_is_err_and c.from_residual.result c.from_residual.ensures.1 in
+    rw z.1 (rounding-trip c.loop.invariant c.in_err-round.ensures (omega (arith, c.loop-test.true)) refl)
 
-pub shape_of-labels-then-tripped : goal.shape_of-labels-then-tripped
-shape_of-labels-then-tripped c =
-    labels-size c.requires.prepared (built-trans c.loop-bounds.invariant.built c.round-s.ensures)
+pub returns-then-b-count : goal.returns-then-b-count
+returns-then-b-count c =
+    rounding-still c.loop.invariant c.in_ok-round.ensures (omega (arith, c.loop-test.true)) c.if-b-count.true
 
-pub shape_of-edges-then-tripped : goal.shape_of-edges-then-tripped
-shape_of-edges-then-tripped c =
-    c.round-s.ensures.left.size ∙ c.loop-bounds.invariant.built.left.size
+pub loop-preserved : goal.loop-preserved
+loop-preserved c =
+    let n = c.max-end.result in
+    let e : n - (c.loop.counter + 1) ≡ n - c.loop.counter - 1 = omega arith in
+    rw e (rounding-more c.loop.invariant c.in_ok-round.ensures (omega (arith, c.loop-test.true)) refl c.if-b-count.false)
 
-pub shape_of-log-then-tripped : goal.shape_of-log-then-tripped
-shape_of-log-then-tripped c =
-    c.round-s.ensures.left.log-size ∙ c.loop-bounds.invariant.built.left.log-size
-
-pub returns-then-tripped : goal.returns-then-tripped
-unfolding expand_from_axioms
-returns-then-tripped c =
-    rounding-trip c.loop-bounds.invariant c.round-s.ensures c.if-tripped.true
-
-pub shape_of-label-then-grown-held : goal.shape_of-label-then-grown-held
-shape_of-label-then-grown-held c =
-    c.round-s.ensures.wide ∙ sym c.requires.prepared.label-wide
-
-pub shape_of-labels-then-grown-held : goal.shape_of-labels-then-grown-held
-shape_of-labels-then-grown-held c =
-    labels-size c.requires.prepared (built-trans c.loop-bounds.invariant.built c.round-s.ensures)
-
-pub shape_of-edges-then-grown-held : goal.shape_of-edges-then-grown-held
-shape_of-edges-then-grown-held c =
-    c.round-s.ensures.left.size ∙ c.loop-bounds.invariant.built.left.size
-
-pub shape_of-log-then-grown-held : goal.shape_of-log-then-grown-held
-shape_of-log-then-grown-held c =
-    c.round-s.ensures.left.log-size ∙ c.loop-bounds.invariant.built.left.log-size
-
-pub returns-then-grown-held : goal.returns-then-grown-held
-unfolding expand_from_axioms
-returns-then-grown-held c =
-    rounding-still c.loop-bounds.invariant c.round-s.ensures c.if-grown-held.true
-
-pub shape_of-label-then-left-eq0 : goal.shape_of-label-then-left-eq0
-shape_of-label-then-left-eq0 c =
-    c.round-s.ensures.wide ∙ sym c.requires.prepared.label-wide
-
-pub shape_of-labels-then-left-eq0 : goal.shape_of-labels-then-left-eq0
-shape_of-labels-then-left-eq0 c =
-    labels-size c.requires.prepared (built-trans c.loop-bounds.invariant.built c.round-s.ensures)
-
-pub shape_of-edges-then-left-eq0 : goal.shape_of-edges-then-left-eq0
-shape_of-edges-then-left-eq0 c =
-    c.round-s.ensures.left.size ∙ c.loop-bounds.invariant.built.left.size
-
-pub shape_of-log-then-left-eq0 : goal.shape_of-log-then-left-eq0
-shape_of-log-then-left-eq0 c =
-    c.trip_rounds.auto.log ∙ c.round-s.ensures.left.log-size ∙ c.loop-bounds.invariant.built.left.log-size
-
-pub returns-then-left-eq0 : goal.returns-then-left-eq0
-unfolding expand_from_axioms
-returns-then-left-eq0 c =
-    let G = c.loop-bounds.invariant in
-    let P = prepared-after (prepared-after c.requires.prepared G.built refl) c.round-s.ensures c.if-tripped.false in
-    rounding-last G c.round-s.ensures c.if-tripped.false c.if-grown-held.false c.if-left-eq0.true (built-trip P _ c.trip_rounds.ensures.0 c.trip_rounds.ensures.1)
-
-pub overflow_sub-left : goal.overflow_sub-left
-overflow_sub-left c =
-    omega (arith, c.if-left-eq0.false)
-
-pub loop-bounds-smaller : goal.loop-bounds-smaller
-loop-bounds-smaller c =
-    omega (arith, c.if-left-eq0.false)
-
-pub loop-bounds-preserved : goal.loop-bounds-preserved
-loop-bounds-preserved c =
-    rounding-more c.loop-bounds.invariant c.round-s.ensures c.if-tripped.false c.if-grown-held.false c.if-left-eq0.false
+pub returns : goal.returns
+returns c =
+    let n = c.note.ensures in
+    rounding-last c.loop.invariant c.requires.ready (omega (arith, c.loop-test.false)) n.same (rw c.bound_tripped.ensures at n.log) n.tally n.rest

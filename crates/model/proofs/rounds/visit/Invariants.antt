@@ -1,13 +1,15 @@
-use Prim.Native.Nat.{◌-◌, ◌≤◌}
-use lib.ListN.{drop}
+use Rattle.std.proofs.Common.{◌-◌, ◌≤◌, drop, length}
 use Rattle.deck.specs.Content.{deck_of}
-use Rattle.build.specs.Model.{lent}
+use Rattle.build.specs.Building.{deck_in}
+use Rattle.build.proofs.BuildingLaws.{Walking}
 use Rattle.model.specs.Rounds.{fire_axiom}
-use Rattle.build.proofs.BuildLaws.{OnModel}
 use Rattle.model.proofs.rounds.visit.Given as goal
 
-abbrev pub invariant-loop-i : goal.invariant-loop-i
-invariant-loop-i l = (l.i ≤ l.count) × OnModel (deck_of l.deck) l.bounds (fire_axiom (deck_of l.deck) l.floor l.bounds l.e.0) (deck_of l.deck).axioms (drop l.i (deck_of l.deck).axioms) (lent l.initial.labels l.initial.edges l.initial.log) l.initial.held (lent l.labels l.edges l.log) l.label l.held
+abbrev pub invariant-loop-axiom : goal.invariant-loop-axiom
+invariant-loop-axiom l =
+    let S = l.initial.b in
+    let xs = (deck_in S).axioms in
+    (l.first ≤ length l.triggers) × Walking S (λ p. fire_axiom (deck_of p.deck.bytes.now) p.floor.now p.bounds l.e.0) xs (drop l.first xs) l.b
 
-abbrev pub decreases-loop-i : goal.decreases-loop-i
-decreases-loop-i l = l.count - l.i
+abbrev pub decreases-loop-axiom : goal.decreases-loop-axiom
+decreases-loop-axiom l = length l.triggers - l.first

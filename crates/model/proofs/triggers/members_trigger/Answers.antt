@@ -1,15 +1,11 @@
 use mathlib.Core.Path.{sym, ◌∙◌}
-use Rattle.model.proofs.TriggerLaws.{members-add-nothing, members-no-rule, trigger-any}
+use Rattle.model.proofs.TriggerLaws.{members-add-nothing, members-no-rule}
+use Rattle.model.proofs.triggers.members_trigger.Goals.{else-any_adds-via-then-any_adds+else-any_rule, else-any_adds-via-else-any_adds}
 use Rattle.model.proofs.triggers.members_trigger.Goals as goal
-
-pub returns-then-not-any_adds : goal.returns-then-not-any_adds
-returns-then-not-any_adds c =
-    members-add-nothing (sym c.any_adds.ensures ∙ c.if-not-any_adds.true)
-
-pub returns-then-not-any_rule : goal.returns-then-not-any_rule
-returns-then-not-any_rule c =
-    members-no-rule (sym c.any_rule.ensures ∙ c.if-not-any_rule.true)
 
 pub returns : goal.returns
 returns c =
-    trigger-any
+    elim c.else-any_adds.branch [
+      | else-any_adds-via-then-any_adds+else-any_rule w ↦ members-no-rule _ _ (sym w.any_rule.ensures ∙ w.if-any_rule.false)
+      | else-any_adds-via-else-any_adds w ↦ members-add-nothing _ _ (sym c.any_adds.ensures ∙ w.if-any_adds.false)
+    ]
