@@ -3,14 +3,18 @@
 
     tools/places.py          a count for each search and crate
     tools/places.py -v       the places too
+    tools/places.py --parsed counted in another way: from the items and words of each file (tools/parsed.py), not by its text
 
-What it finds are candidates by their text; the page says which of them are places of a point.
+What it finds are candidates; the page says which of them are places of a point.
 """
 import collections
 import glob
 import os
 import re
 import sys
+
+sys.dont_write_bytecode = True
+import parsed
 
 ROOT = os.path.join(os.path.dirname(os.path.abspath(__file__)), "..", "crates")
 FN = re.compile(r"\bfn (\w+)(?:<[^>(]*>)?\(([^)]*)\)([^{]*?(?:(?:requires|ensures)[^\n]*\n[^\n]*?)*)\n\s*\{")
@@ -94,9 +98,16 @@ SEARCHES = [
 ]
 
 
+def searches():
+    if "--parsed" in sys.argv[1:]:
+        items = parsed.items()
+        return [(title, search(items)) for title, search in parsed.SEARCHES]
+    return [(title, search()) for title, search in SEARCHES]
+
+
 def main():
-    for title, search in SEARCHES:
-        found = list(search())
+    for title, search in searches():
+        found = list(search)
         per = collections.Counter(crate for crate, _ in found)
         print(f"{title}: {len(found)}" + "".join(f"  {c} {n}" for c, n in sorted(per.items())))
         if "-v" in sys.argv[1:]:

@@ -16,7 +16,8 @@ use crate::idle::is_idle;
 use crate::plan::Plan;
 use crate::quiet::keep_quiet;
 use crate::tally::{Step, Tally};
-use atoms::bytes::{body_label_known, is_short};
+use atoms::body::body_label_known;
+use atoms::visits::is_short;
 use deck::Deck;
 use deck::concepts::ConceptExpr;
 use deck::numbers::{ConceptId, Element, RoleId};
@@ -37,9 +38,10 @@ impl Build<'_, '_> {
         ensures holds { Holds self.old self.new (is_err result) (spec.reach_body (deck_in self.old) self.old.plan.floor.now self.old.plan.bounds role.0 concept.0 from.0 (model_of self.old)) }
         ensures place { IfOk result (λ e. e.0 ≡ index_of (model_of self.old).labels (spec.body_label (deck_in self.old) self.old.plan.floor.now self.old.plan.bounds role.0 concept.0 (model_of self.old))) }
     {
+        let deck = self.plan.deck;
         let short = memo.len() < 16384;
         self.tally.reasons = body_label_known(
-            self.plan.deck.bytes,
+            &deck,
             role,
             concept,
             short,
@@ -136,7 +138,8 @@ impl Build<'_, '_> {
         requires concept_bound { concept.0 < concept_count (deck_in self.old) }
         ensures { Holds self.old self.new (is_err result) (spec.work (deck_in self.old) self.old.plan.floor.now self.old.plan.bounds concept.0 e.0 (model_of self.old)) }
     {
-        if is_short(self.plan.deck.bytes, sizes, concept) {
+        let deck = self.plan.deck;
+        if is_short(&deck, sizes, concept) {
             return self.work_with::<1>(concept, e);
         }
         self.work_with::<16384>(concept, e)

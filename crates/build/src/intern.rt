@@ -8,7 +8,7 @@ ghost use Rattle.build.specs.Intern.{index_of, Found};
 ghost use Rattle.build.specs.Building.{HasPlace, Interns, label_in, model_of};
 
 use crate::building::Build;
-use atoms::bytes::apply_floor;
+use atoms::floor::apply_floor;
 use deck::numbers::Element;
 
 // The last word of the label that has a class, where labels mostly differ.
@@ -103,7 +103,8 @@ impl Build<'_, '_> {
         requires { HasPlace self.old }
         ensures { Interns self.old self.new (label_in self.old) result.0 }
     {
-        apply_floor(self.plan.deck.bytes, self.plan.floor, self.label);
+        let deck = self.plan.deck;
+        apply_floor(&deck, self.plan.floor, self.label);
         let count = self.tally.elements;
         let labels = &mut *self.labels;
         let label = &mut *self.label;

@@ -8,7 +8,7 @@ ghost use Rattle.build.specs.Prints.{mixed, print_to, slot_of, Chained};
 
 use crate::building::Build;
 use crate::intern::row;
-use atoms::bytes::apply_floor;
+use atoms::floor::apply_floor;
 use deck::numbers::Element;
 
 // A fingerprint takes word w of place i in.
@@ -111,7 +111,8 @@ impl Build<'_, '_> {
         ensures interns { Interns self.old self.new (label_in self.old) result.0 }
         ensures chained_after { Chained (interned (model_of self.old).labels (label_in self.old)) heads.new links.new }
     {
-        apply_floor(self.plan.deck.bytes, self.plan.floor, self.label);
+        let deck = self.plan.deck;
+        apply_floor(&deck, self.plan.floor, self.label);
         let count = self.tally.elements;
         let labels = &mut *self.labels;
         let label = &mut *self.label;

@@ -14,8 +14,8 @@ use crate::bounds::Bounds;
 use crate::building::Build;
 use crate::plan::Plan;
 use crate::tally::Tally;
-use atoms::bytes::load_row;
 use atoms::labels;
+use atoms::subsumers::load_row;
 use deck::Deck;
 use deck::numbers::{ClassId, Element};
 
@@ -78,7 +78,8 @@ impl Build<'_, '_> {
         ensures interns { Interns self.old self.new (row_label (deck_in self.old) self.old.plan.floor.now class.0) result.0 }
         ensures chained_after { Chained (interned (model_of self.old).labels (row_label (deck_in self.old) self.old.plan.floor.now class.0)) heads.new links.new }
     {
-        load_row(self.plan.deck.bytes, class, self.label);
+        let deck = self.plan.deck;
+        load_row(&deck, class, self.label);
         self.intern_by(heads, links)
     }
 

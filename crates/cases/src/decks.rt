@@ -26,28 +26,14 @@ fn plain(data: &[u8], read: usize, room: &mut [u8], made: usize, count: usize)
     }
 }
 
-// The step after step `due`.
-fn next_due(due: usize, width: usize) -> usize
-    requires { due ≤ width }
-    ensures { result ≤ width }
-{
-    if due < width && width - due > 1 {
-        due + 1
-    } else {
-        0
-    }
-}
-
 // Makes `count` words, each from the one `width` words before it and the step that is due.
 fn stepped(data: &[u8], read: usize, room: &mut [u8], made: usize, count: usize, width: usize)
-    requires { (read ≤ 1000000) × (made ≤ 1000000) × (count ≤ 1000000) × (width ≤ made) }
+    requires { (read ≤ 1000000) × (made ≤ 1000000) × (count ≤ 1000000) × (0 < width) × (width ≤ made) }
 {
-    let mut due = 0;
     for i in 0..count {
         let before = word_or_0(room, made + i - width);
-        let word = before.wrapping_add(word_or_0(data, read + due));
+        let word = before.wrapping_add(word_or_0(data, read + i % width));
         put_word(room, made + i, word);
-        due = next_due(due, width);
     }
 }
 

@@ -1,30 +1,28 @@
-// Rooms of any size, blank.
-ghost use Rattle.std.specs.Prelude.{◌≡◌, ◌≤◌, ◌*◌, ◌<◌, ◌^◌, length};
+// Rooms of any size, blank, and what a run is lent of them.
+ghost use Rattle.std.specs.Prelude.{◌≡◌, ◌<◌, ◌^◌, length};
 
-pub fn bytes<const N: usize>() -> [u8; N]
+// A room of so many items, all blank. A function of its own, as the list of a long array is too long to be written out in proofs.
+pub fn blank<T: Copy, const N: usize>(item: T) -> [T; N]
     requires { N < 2 ^ 32 }
     ensures { N ≡ length result }
 {
-    [0; N]
+    [item; N]
 }
 
-pub fn words<const N: usize>() -> [u32; N]
-    requires { N < 2 ^ 32 }
-    ensures { N ≡ length result }
+// Marks each place of a room.
+pub fn mark_all<T: Drop, F: Fn(usize) -> T>(room: &mut [T], mark: F)
+    requires { F.IsAlwaysCallable mark }
 {
-    [0; N]
+    for (i, place) in room.iter_mut().enumerate() {
+        *place = mark(i);
+    }
 }
 
-pub fn labels<const N: usize>() -> [u64; N]
-    requires { N < 2 ^ 32 }
-    ensures { N ≡ length result }
-{
-    [0; N]
-}
-
-pub fn edges<const N: usize>() -> [[u32; 3]; N]
-    requires { N < 2 ^ 32 }
-    ensures { N ≡ length result }
-{
-    [[0; 3]; N]
+// The buffers that a run is lent.
+#[derive(Drop)]
+pub struct Lent<'a> {
+    pub labels: &'a mut [u64],
+    pub edges: &'a mut [[u32; 3]],
+    pub log: &'a mut [u32],
+    pub verdicts: &'a mut [u32],
 }

@@ -46,7 +46,7 @@ witness-most w = by (eqb w 4294967295)
     by true = omega arith
     by false = field-most w
 
-outcome-most : (o : Outcome) → length (outcome_word o) ≤ 9
+pub outcome-most : (o : Outcome) → length (outcome_word o) ≤ 9
 unfolding outcome_word
 outcome-most Confirmed = omega arith
 outcome-most Failed = omega arith
@@ -65,7 +65,7 @@ pub refusal-most : (n : ℕ) → length (refusal_line n) ≤ 64
 unfolding refusal_line
 refusal-most n = simp length-append (omega (arith, field-most n))
 
-verdict-most : (w₀ w₁ w₂ w₃ : ℕ) → length (verdict_text w₀ w₁ w₂ w₃) ≤ 39
+pub verdict-most : (w₀ w₁ w₂ w₃ : ℕ) → length (verdict_text w₀ w₁ w₂ w₃) ≤ 39
 unfolding verdict_text
 verdict-most w₀ w₁ w₂ w₃ = by (eqb w₀ 0) (eqb w₀ 1)
   where

@@ -1,17 +1,17 @@
 -- Laws of the program's text. Assumes nothing.
 --     run-text       the text of what equals the program's run
---     report-short, report-done, report-whole   what a lent buffer then holds
+--     report-short, report-done, report-copied, report-whole   what a lent buffer then holds
 --     confirms       a text that begins with "confirmed" is that of a confirmed run, with all that is promised of one
 use Rattle.std.specs.Prelude.{Ok, Err}
 use mathlib.Core.Path.{◌≡◌, refl, ap, ◌∙◌}
 use mathlib.Core.Bool.{Bool, true, false, cond}
-use mathlib.Core.List.{List}
+use mathlib.Core.List.{List, ◌++◌}
 use Prim.Native.Nat.{ℕ, ◌<◌, ◌≤◌}
 use native.Mathlib.Nat.{zero-add}
 use native.Mathlib.Omega.{arith}
 use borrow.Author.Tests.{lt-ltb, le-ltb}
 use lib.Dec.{ltb}
-use lib.ListN.{length, take, get_or}
+use lib.ListN.{length, take, drop, get_or}
 use lib.Seq.{take-length}
 use Rattle.deck.specs.Deck.{axiom_count}
 use Rattle.deck.specs.Content.{deck_of}
@@ -49,6 +49,13 @@ report-short s out h = rw (lt-ltb _ _ h)
 pub report-done : (s : List ℕ) {out out' : List ℕ} {r : ℕ} → Wrote out 0 (program_text s) out' r → reported r out' ≡ report s out
 unfolding report
 report-done s {out} W = let p = wrote-put W in rw (le-ltb (length out) (length (program_text s)) (omega (arith, W.fits)), p.0, p.1)
+
+-- the text is copied to the start of a buffer that it fits
+pub report-copied : (s out : List ℕ) {text : List ℕ} {n : ℕ} → text ≡ program_text s → n ≡ length (program_text s) → n ≤ length out
+    → (reported n (text ++ drop n out) ≡ report s out) × (take n (text ++ drop n out) ≡ program_text s)
+unfolding report put
+report-copied s out p q h =
+    (rw (p, q, le-ltb (length out) (length (program_text s)) (omega (arith, q, h))), rw (p, q) (put-take out (program_text s)))
 
 -- the part of the buffer that is in use is the text
 pub wrote-text : {was text now : List ℕ} {r : ℕ} → Wrote was 0 text now r → take r now ≡ text

@@ -7,7 +7,6 @@ use lib.ListN.{length, length-replicate}
 use Rattle.eval.proofs.DeckW.{deck_w, is-W}
 use Rattle.eval.proofs.DeckW as read
 use Rattle.model.specs.declared.outcome.Outcome.TheVariants.{Confirmed}
-use Rattle.model.specs.Run.{RunAnswer}
 use Rattle.atoms.specs.Rows.{put}
 use Rattle.model.specs.Run.{bounds_fit, room_fits, run_refusal, ran, run}
 use Rattle.model.proofs.RunSpecimens.{run-W}

@@ -2,14 +2,16 @@
 --     wrote_none     nothing is written
 --     wrote-more     bytes after bytes
 --     wrote-length   the buffer keeps its length
-use mathlib.Core.Path.{◌≡◌, sym, ap, ◌∙◌}
+--     puts-none, puts-more, puts-is, room-after   the same of a text in the making
+use mathlib.Core.Path.{◌≡◌, refl, sym, ap, ◌∙◌}
 use mathlib.Core.List.{List, [], ◌++◌, append_assoc}
 use Prim.Native.Nat.{ℕ, ◌+◌, ◌≤◌}
 use native.Mathlib.Nat.{add-zero}
 use native.Mathlib.Omega.{arith}
 use lib.ListN.{length, take, drop, length-append}
 use lib.Seq.{paste-zero, length-paste, take-paste, drop-paste, take-length, drop-drop}
-use Rattle.report.specs.Writes.{Wrote}
+use Rattle.report.specs.declared.lines.Page.{Page}
+use Rattle.report.specs.Writes.{Wrote, HasRoom, Puts}
 
 pub wrote_none : (was : List ℕ) (at : ℕ) → at ≤ length was → Wrote was at [] was at
 wrote_none was at h = record { is = paste-zero was at []; end = sym (add-zero at); fits = omega arith }
@@ -36,3 +38,17 @@ wrote-more {was} {at} {a} {mid} {m} {b} {now} {r} A B =
       end = omega (arith, A.end, B.end);
       fits = omega (arith, A.end, B.fits);
     }
+
+-- ---- a text in the making
+pub puts-none : {p : Page} → p.used ≤ length p.buf.now → Puts p p []
+puts-none {p} h = record { same = refl; wrote = wrote_none _ _ h }
+
+pub puts-more : {p q r : Page} {a b : List ℕ} → Puts p q a → Puts q r b → Puts p r (a ++ b)
+puts-more A B = record { same = B.same ∙ A.same; wrote = wrote-more A.wrote B.wrote }
+
+pub puts-is : {p q : Page} {a b : List ℕ} → Puts p q a → a ≡ b → Puts p q b
+puts-is A e = rw e at A
+
+-- after at most k bytes there is room for k fewer
+pub room-after : {p q : Page} {a : List ℕ} (k n : ℕ) → HasRoom p (k + n) → Puts p q a → length a ≤ k → HasRoom q n
+room-after k n h A l = omega (arith, h, l, A.wrote.end, wrote-length A.wrote)

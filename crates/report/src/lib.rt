@@ -2,6 +2,7 @@
 #![tactic(auto)]
 
 mod lines;
+mod room;
 mod text;
 
 ghost use Rattle.std.specs.Prelude.{◌≡◌, length, take};
@@ -10,15 +11,15 @@ ghost use Rattle.report.specs.Lines.{outcome_word};
 ghost use Rattle.report.specs.Text.{reported, text_room, Confirms};
 ghost use Rattle.report.specs.Text.{report as Text·report};
 
-use lines::put;
-use text::put_text;
+use room::blank;
+use text::write_text;
 
 // Room for any text: a line of at most 64 bytes, and 50 bytes for each of 4,096 axioms.
 pub fn text_room() -> [u8; 204864]
     ensures value { result ≡ text_room }
     ensures value_2 { 204864 ≡ length result }
 {
-    [0; 204864]
+    blank(0)
 }
 
 // Writes the text to the start of `out` and answers its length; 0 where `out` is too short for it, and then nothing is written.
@@ -28,12 +29,13 @@ pub fn report(input: &[u8], out: &mut [u8]) -> usize
     ensures confirmed { take 9 (take result out.new) ≡ outcome_word Outcome.Confirmed → Confirms input.now }
 {
     if 204864 <= out.len() {
-        return put_text(out, input);
+        return write_text(out, input);
     }
     let mut text = text_room();
-    let n = put_text(&mut text, input);
+    let n = write_text(&mut text, input);
     if out.len() < n {
         return 0;
     }
-    put(out, 0, &text[..n])
+    out[..n].copy_from_slice(&text[..n]);
+    n
 }

@@ -1,122 +1,118 @@
-// The lines of the text, written into a lent buffer. Each function writes from a place on and answers the place after
-// what it wrote. The longest line, a failure with three witnesses, has 50 bytes.
-ghost use Rattle.std.specs.Prelude.{◌≡◌, ◌+◌, ◌≤◌, length};
+// The lines of the text. The longest, a failure with three witnesses, has 50 bytes.
+ghost use Rattle.std.specs.Prelude.{◌≡◌, ◌+◌, ◌≤◌, length, get_or};
 ghost use Rattle.report.specs.Lines.{decimal, field, outcome_word, witness, verdict_text, summary_line, verdict_line, refusal_line};
-ghost use Rattle.report.specs.Writes.{Wrote};
+ghost use Rattle.report.specs.Writes.{HasRoom, Puts};
 
 use build::tally::Tally;
 use model::outcome::Outcome;
 
-pub fn put(buf: &mut [u8], at: usize, bytes: &[u8]) -> usize
-    requires { at + length bytes.now ≤ length buf.old }
-    ensures { Wrote buf.old at bytes.now buf.new result }
-{
-    let end = at + bytes.len();
-    buf[at..end].copy_from_slice(bytes);
-    end
+// The text in the making: the buffer that is lent for it, and how much of that is in use.
+#[derive(Drop)]
+pub struct Page<'a> {
+    pub buf: &'a mut [u8],
+    pub used: usize,
 }
 
-// A number has at most ten digits.
-fn put_number(buf: &mut [u8], at: usize, n: u32) -> usize
-    requires { at + 10 ≤ length buf.old }
-    ensures wrote { Wrote buf.old at (decimal n) buf.new result }
-    ensures upper_bound { result ≤ at + 10 }
-{
-    let mut text = [0u8; 20];
-    let k = io::decimal(n as u64, &mut text);
-    put(buf, at, &text[..k])
-}
-
-// A space and a number.
-fn put_field(buf: &mut [u8], at: usize, n: u32) -> usize
-    requires { at + 11 ≤ length buf.old }
-    ensures wrote { Wrote buf.old at (field n) buf.new result }
-    ensures upper_bound { result ≤ at + 11 }
-{
-    let next = put(buf, at, b" ");
-    put_number(buf, next, n)
-}
-
-fn put_outcome(buf: &mut [u8], outcome: Outcome) -> usize
-    requires { 9 ≤ length buf.old }
-    ensures wrote { Wrote buf.old 0 (outcome_word outcome) buf.new result }
-    ensures upper_bound { result ≤ 9 }
-{
-    match outcome {
-        Outcome::Confirmed => put(buf, 0, b"confirmed"),
-        Outcome::Failed => put(buf, 0, b"failed"),
-        Outcome::Open => put(buf, 0, b"open"),
+impl Page<'_> {
+    // Some bytes more.
+    fn put(&mut self, bytes: &[u8])
+        requires { HasRoom self.old (length bytes.now) }
+        ensures { Puts self.old self.new bytes.now }
+    {
+        let end = self.used + bytes.len();
+        self.buf[self.used..end].copy_from_slice(bytes);
+        self.used = end;
     }
-}
 
-pub fn summary_line(buf: &mut [u8], outcome: Outcome, t: Tally) -> usize
-    requires { 64 ≤ length buf.old }
-    ensures wrote { Wrote buf.old 0 (summary_line outcome t) buf.new result }
-    ensures upper_bound { result ≤ 64 }
-{
-    let name = put_outcome(buf, outcome);
-    let elements = put_field(buf, name, t.elements);
-    let edges = put_field(buf, elements, t.edges);
-    let reasons = put_field(buf, edges, t.reasons);
-    put(buf, reasons, b"\n")
-}
-
-// A word of a failure, unless it is no witness.
-fn put_witness(buf: &mut [u8], at: usize, w: u32) -> usize
-    requires { at + 11 ≤ length buf.old }
-    ensures wrote { Wrote buf.old at (witness w) buf.new result }
-    ensures upper_bound { result ≤ at + 11 }
-{
-    if w == 4294967295 {
-        return at;
+    // A number has at most ten digits.
+    fn put_number(&mut self, n: u32)
+        requires { HasRoom self.old 10 }
+        ensures { Puts self.old self.new (decimal n) }
+    {
+        let mut text = [0u8; 20];
+        let k = io::decimal(n as u64, &mut text);
+        self.put(&text[..k]);
     }
-    put_field(buf, at, w)
-}
 
-// What a verdict's four words say.
-fn put_verdict(buf: &mut [u8], at: usize, w0: u32, w1: u32, w2: u32, w3: u32) -> usize
-    requires { at + 39 ≤ length buf.old }
-    ensures wrote { Wrote buf.old at (verdict_text w0 w1 w2 w3) buf.new result }
-    ensures upper_bound { result ≤ at + 39 }
-{
-    if w0 == 0 {
-        return put(buf, at, b" holds");
+    // A space and a number.
+    fn put_field(&mut self, n: u32)
+        requires { HasRoom self.old 11 }
+        ensures { Puts self.old self.new (field n) }
+    {
+        self.put(b" ");
+        self.put_number(n);
     }
-    if w0 == 1 {
-        let fails = put(buf, at, b" fails");
-        let first = put_witness(buf, fails, w1);
-        let second = put_witness(buf, first, w2);
-        return put_witness(buf, second, w3);
+
+    fn put_outcome(&mut self, outcome: Outcome)
+        requires { HasRoom self.old 9 }
+        ensures { Puts self.old self.new (outcome_word outcome) }
+    {
+        match outcome {
+            Outcome::Confirmed => self.put(b"confirmed"),
+            Outcome::Failed => self.put(b"failed"),
+            Outcome::Open => self.put(b"open"),
+        }
     }
-    let open = put(buf, at, b" open");
-    let first = put_field(buf, open, w0);
-    let second = put_field(buf, first, w1);
-    put_field(buf, second, w2)
-}
 
-pub fn verdict_line(
-    buf: &mut [u8],
-    at: usize,
-    axiom: u32,
-    w0: u32,
-    w1: u32,
-    w2: u32,
-    w3: u32,
-) -> usize
-    requires { at + 50 ≤ length buf.old }
-    ensures wrote { Wrote buf.old at (verdict_line «axiom» w0 w1 w2 w3) buf.new result }
-    ensures upper_bound { result ≤ at + 50 }
-{
-    let index = put_number(buf, at, axiom);
-    let verdict = put_verdict(buf, index, w0, w1, w2, w3);
-    put(buf, verdict, b"\n")
-}
+    pub fn put_summary(&mut self, outcome: Outcome, t: Tally)
+        requires { HasRoom self.old 64 }
+        ensures { Puts self.old self.new (summary_line outcome t) }
+    {
+        self.put_outcome(outcome);
+        self.put_field(t.elements);
+        self.put_field(t.edges);
+        self.put_field(t.reasons);
+        self.put(b"\n");
+    }
 
-pub fn refusal_line(buf: &mut [u8], number: u32) -> usize
-    requires { 64 ≤ length buf.old }
-    ensures { Wrote buf.old 0 (refusal_line number) buf.new result }
-{
-    let refused = put(buf, 0, b"refused");
-    let index = put_field(buf, refused, number);
-    put(buf, index, b"\n")
+    // A word of a failure, unless it is no witness.
+    fn put_witness(&mut self, w: u32)
+        requires { HasRoom self.old 11 }
+        ensures { Puts self.old self.new (witness w) }
+    {
+        if w == 4294967295 {
+            return;
+        }
+        self.put_field(w);
+    }
+
+    // What a verdict's four words say.
+    fn put_verdict(&mut self, words: [u32; 4])
+        requires { HasRoom self.old 39 }
+        ensures { Puts self.old self.new (verdict_text (get_or words 0 0) (get_or words 1 0) (get_or words 2 0) (get_or words 3 0)) }
+    {
+        match words {
+            [0, _, _, _] => self.put(b" holds"),
+            [1, first, second, third] => {
+                self.put(b" fails");
+                self.put_witness(first);
+                self.put_witness(second);
+                self.put_witness(third);
+            }
+            [first, second, third, _] => {
+                self.put(b" open");
+                self.put_field(first);
+                self.put_field(second);
+                self.put_field(third);
+            }
+        }
+    }
+
+    pub fn put_axiom(&mut self, axiom: u32, words: [u32; 4])
+        requires { HasRoom self.old 50 }
+        ensures { Puts self.old self.new (verdict_line «axiom» (get_or words 0 0) (get_or words 1 0) (get_or words 2 0) (get_or words 3 0)) }
+    {
+        self.put_number(axiom);
+        self.put_verdict(words);
+        self.put(b"\n");
+    }
+
+    pub fn put_refusal(&mut self, number: u32)
+        requires { HasRoom self.old 64 }
+        ensures { Puts self.old self.new (refusal_line number) }
+    {
+        self.put(b"refused");
+        self.put_field(number);
+        self.put(b"\n");
+    }
 }

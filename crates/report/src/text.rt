@@ -1,140 +1,117 @@
-// The text of a run, written into a lent buffer.
-ghost use Rattle.std.specs.Prelude.{◌≡◌, ◌+◌, ◌*◌, ◌<◌, ◌≤◌, length};
+// The text of a run.
+ghost use Rattle.std.specs.Prelude.{◌≡◌, ◌+◌, ◌*◌, ◌≤◌, ◌∷◌, [], length, get_or};
 ghost use Rattle.deck.specs.Content.{IsAccepted, deck_of};
 ghost use Rattle.deck.specs.Deck.{axiom_count};
 ghost use Rattle.model.specs.declared.outcome.Outcome.{Outcome};
 ghost use Rattle.build.specs.declared.tally.Tally.{Tally};
-ghost use Rattle.report.specs.Text.{axiom_line, axiom_lines, answer_text, program_run, run_text, program_text};
-ghost use Rattle.report.specs.Text.{labels_lent as Text·labels, edges_lent as Text·edges, log_lent as Text·log, verdicts_lent as Text·verdicts};
-ghost use Rattle.report.specs.Writes.{Wrote};
+ghost use Rattle.report.specs.Text.{axiom_lines, answer_text, program_run, run_text, program_text};
+ghost use Rattle.report.specs.Writes.{HasRoom, Puts, Wrote};
 
-use crate::lines::{refusal_line, summary_line, verdict_line};
+use crate::lines::Page;
+use crate::room::blank;
 use build::bounds::Bounds;
 use build::tally::Tally;
-use deck::axioms::axiom_count;
+use deck::Deck;
 use deck::refusal::Refusal;
 use model::outcome::Outcome;
 use model::run::run;
 
-// Labels for N up to 256: 256 + 1 of them, of four words each.
-fn label_room() -> [u64; 1028]
-    ensures value { result ≡ Text·labels }
-    ensures value_2 { 1028 ≡ length result }
-{
-    [0; 1028]
-}
-
-// One edge more than the bound.
-fn edge_room() -> [[u32; 3]; 1001]
-    ensures value { result ≡ Text·edges }
-    ensures value_2 { 1001 ≡ length result }
-{
-    let none = [0, 0, 0];
-    [none; 1001]
-}
-
-// Room for one reason.
-fn log_room() -> [u32; 3]
-    ensures value { result ≡ Text·log }
-    ensures value_2 { 3 ≡ length result }
-{
-    [0; 3]
-}
-
-// Four words an axiom, for A up to 4,096.
-fn verdict_room() -> [u32; 16384]
-    ensures value { result ≡ Text·verdicts }
-    ensures value_2 { 16384 ≡ length result }
-{
-    [0; 16384]
-}
-
-// The line of one axiom.
-fn put_axiom(buf: &mut [u8], at: usize, verdicts: &[u32], k: u32) -> usize
-    requires k_in_bounds { k * 4 + 4 ≤ length verdicts.now }
-    requires at_in_bounds { at + 50 ≤ length buf.old }
-    ensures wrote { Wrote buf.old at (axiom_line verdicts.now k) buf.new result }
-    ensures upper_bound { result ≤ at + 50 }
+// The four words of the verdict on axiom k.
+fn words_at(verdicts: &[u32], k: u32) -> [u32; 4]
+    requires { k * 4 + 4 ≤ length verdicts.now }
+    ensures { result ≡ get_or verdicts.now (k * 4) 0 ∷ get_or verdicts.now (k * 4 + 1) 0 ∷ get_or verdicts.now (k * 4 + 2) 0 ∷ get_or verdicts.now (k * 4 + 3) 0 ∷ [] }
 {
     let i = k as usize * 4;
-    verdict_line(
-        buf,
-        at,
-        k,
+    [
         verdicts[i],
         verdicts[i + 1],
         verdicts[i + 2],
         verdicts[i + 3],
-    )
+    ]
 }
 
-// The lines of all axioms.
-fn put_axioms(buf: &mut [u8], at: usize, verdicts: &[u32], axioms: u32) -> usize
-    requires axioms_in_bounds { 4 * axioms ≤ length verdicts.now }
-    requires axioms_in_bounds_2 { at + 50 * axioms ≤ length buf.old }
-    ensures { Wrote buf.old at (axiom_lines verdicts.now axioms) buf.new result }
-{
-    let mut next = at;
-    for k in 0..axioms {
-        next = put_axiom(buf, next, verdicts, k);
-    }
-    next
-}
-
-// The text of a run's answer; a run that is done has accepted the deck and had room for the verdicts.
-fn put_answer(
-    buf: &mut [u8],
-    deck: &[u8],
-    verdicts: &[u32],
-    answer: Result<(Outcome, Tally), Refusal>,
-) -> usize
-    requires in_bounds { 204864 ≤ length buf.old }
-    requires verdicts_len_bound { length verdicts.now ≤ 16384 }
-    requires accepted { (outcome : Outcome) (t : Tally) → answer ≡ Ok (outcome, t) → IsAccepted deck.now × (4 * axiom_count (deck_of deck.now) ≤ length verdicts.now) }
-    ensures { Wrote buf.old 0 (answer_text answer (axiom_count (deck_of deck.now)) verdicts.now) buf.new result }
-{
-    match answer {
-        Err(refusal) => refusal_line(buf, refusal.number()),
-        Ok((outcome, t)) => {
-            let next = summary_line(buf, outcome, t);
-            put_axioms(buf, next, verdicts, axiom_count(deck))
+impl Page<'_> {
+    // The lines of the first `axioms` axioms.
+    fn put_axioms(&mut self, verdicts: &[u32], axioms: u32)
+        requires words { 4 * axioms ≤ length verdicts.now }
+        requires room { HasRoom self.old (50 * axioms) }
+        ensures { Puts self.old self.new (axiom_lines verdicts.now axioms) }
+    {
+        for k in 0..axioms {
+            self.put_axiom(k, words_at(verdicts, k));
         }
     }
+
+    // The text of a run's answer; a run that is done has accepted the deck and had room for the verdicts.
+    fn put_answer(
+        &mut self,
+        bytes: &[u8],
+        verdicts: &[u32],
+        answer: Result<(Outcome, Tally), Refusal>,
+    )
+        requires room { HasRoom self.old 204864 }
+        requires verdicts_len_bound { length verdicts.now ≤ 16384 }
+        requires accepted { (outcome : Outcome) (t : Tally) → answer ≡ Ok (outcome, t) → IsAccepted bytes.now × (4 * axiom_count (deck_of bytes.now) ≤ length verdicts.now) }
+        ensures { Puts self.old self.new (answer_text answer (axiom_count (deck_of bytes.now)) verdicts.now) }
+    {
+        match answer {
+            Err(refusal) => self.put_refusal(refusal.number()),
+            Ok((outcome, t)) => {
+                let deck = Deck { bytes };
+                self.put_summary(outcome, t);
+                self.put_axioms(verdicts, deck.axiom_count());
+            }
+        }
+    }
+
+    // The text of the program's run of a deck.
+    fn put_run(&mut self, deck: &[u8])
+        requires { HasRoom self.old 204864 }
+        ensures { Puts self.old self.new (run_text deck.now (program_run deck.now)) }
+    {
+        // Labels for N up to 256: 256 + 1 of them, of four words each.
+        let mut labels: [u64; 1028] = blank(0);
+        // One edge more than the bound.
+        let mut edges: [[u32; 3]; 1001] = blank([0; 3]);
+        // Room for one reason.
+        let mut log: [u32; 3] = blank(0);
+        // Four words an axiom, for A up to 4,096.
+        let mut verdicts: [u32; 16384] = blank(0);
+        let bounds = Bounds {
+            max_elements: 255,
+            max_edges: 1000,
+            max_rounds: 100,
+        };
+        let answer = run(
+            deck,
+            bounds,
+            4,
+            &mut labels,
+            &mut edges,
+            &mut log,
+            &mut verdicts,
+        );
+        self.put_answer(deck, &verdicts, answer);
+    }
+
+    // The text of the program: of the run, or of the refusal of a longer input.
+    fn put_text(&mut self, input: &[u8])
+        requires { HasRoom self.old 204864 }
+        ensures { Puts self.old self.new (program_text input.now) }
+    {
+        if 65536 < input.len() {
+            return self.put_refusal(Refusal::ShortBuffer.number());
+        }
+        self.put_run(input);
+    }
 }
 
-// The text of the program's run of a deck.
-fn put_run(buf: &mut [u8], deck: &[u8]) -> usize
-    requires { 204864 ≤ length buf.old }
-    ensures { Wrote buf.old 0 (run_text deck.now (program_run deck.now)) buf.new result }
-{
-    let mut labels = label_room();
-    let mut edges = edge_room();
-    let mut log = log_room();
-    let mut verdicts = verdict_room();
-    let bounds = Bounds {
-        max_elements: 255,
-        max_edges: 1000,
-        max_rounds: 100,
-    };
-    let answer = run(
-        deck,
-        bounds,
-        4,
-        &mut labels,
-        &mut edges,
-        &mut log,
-        &mut verdicts,
-    );
-    put_answer(buf, deck, &verdicts, answer)
-}
-
-// The text of the program: of the run, or of the refusal of a longer input.
-pub fn put_text(buf: &mut [u8], input: &[u8]) -> usize
+// Writes the text to the start of a buffer in which any text fits, and answers its length.
+pub fn write_text(buf: &mut [u8], input: &[u8]) -> usize
     requires { 204864 ≤ length buf.old }
     ensures { Wrote buf.old 0 (program_text input.now) buf.new result }
 {
-    if 65536 < input.len() {
-        return refusal_line(buf, Refusal::ShortBuffer.number());
-    }
-    put_run(buf, input)
+    let mut page = Page { buf, used: 0 };
+    page.put_text(input);
+    page.used
 }

@@ -7,14 +7,13 @@
 #![tactic(auto)]
 
 ghost use Rattle.std.specs.Prelude.{◌≡◌, length};
-ghost use Rattle.deck.specs.Content.{IsAccepted};
 
-use atoms::bytes::is_universal_antecedent;
+use atoms::floor::is_universal_antecedent;
 use cases::each::each_case;
 use cases::input::read_full;
-use cases::room;
+use cases::room::blank;
 use cases::words::part;
-use deck::concepts::concept_count;
+use deck::Deck;
 use deck::numbers::ConceptId;
 use std::io;
 
@@ -27,40 +26,37 @@ fn print_letter(rt: &impl Print, universal: bool) -> io::Result<()> {
 }
 
 // Asks each concept.
-fn print_letters(rt: &impl Print, deck: &[u8]) -> io::Result<()>
-    requires { IsAccepted deck.now }
-{
+fn print_letters(rt: &impl Print, deck: &Deck) -> io::Result<()> {
     rt.write_all(b" ")?;
-    for concept in 0..concept_count(deck) {
+    for concept in 0..deck.concept_count() {
         print_letter(rt, is_universal_antecedent(deck, ConceptId(concept)))?;
     }
     Ok(())
 }
 
-fn print_answer(rt: &impl Print, deck: &[u8]) -> io::Result<()> {
-    let answer = deck::check_deck(deck);
-    match answer {
-        Ok(()) => print_letters(rt, deck),
+fn print_answer(rt: &impl Print, bytes: &[u8]) -> io::Result<()> {
+    match Deck::read(bytes) {
+        Ok(deck) => print_letters(rt, &deck),
         Err(_) => rt.write_all(b" refused"),
     }
 }
 
-// Asks about the deck at word `at` of the data. Answers the word after it, or 0 if it is malformed.
-fn ask_one(rt: &impl Print, data: &[u8], at: usize, room: &mut [u8]) -> io::Result<usize> {
+// Asks about the deck at word `at` of the data. Answers the word after it; none if it is malformed.
+fn ask_one(rt: &impl Print, data: &[u8], at: usize, room: &mut [u8]) -> io::Result<Option<usize>> {
     let Some(case) = cases::decks::deck_at(data, at, room) else {
-        return Ok(0);
+        return Ok(None);
     };
     rt.write_all(part(data, case.name, case.name_end))?;
     print_answer(rt, part(room, 0, case.length))?;
     rt.write_all(b"\n")?;
-    Ok(case.next)
+    Ok(Some(case.next))
 }
 
 fn main(rt: HostRuntime) -> io::Result<()> {
-    let mut data = room::bytes::<400000>();
+    let mut data: [u8; 400000] = blank(0);
     let n = read_full(&mut rt.stdin(), &mut data)?;
     let data = &data[..n];
-    let mut deck = room::bytes::<300000>();
+    let mut deck: [u8; 300000] = blank(0);
     let decks = each_case(n / 4, |at| ask_one(&rt, data, at, &mut deck))?;
     println!(rt; "{decks} decks")
 }

@@ -10,7 +10,7 @@ ghost use Rattle.std.specs.Prelude.{◌≡◌, length};
 
 use cases::each::each_case;
 use cases::input::read_full;
-use cases::room;
+use cases::room::blank;
 use cases::words::part;
 use deck::refusal::Refusal;
 use std::io;
@@ -22,23 +22,28 @@ fn print_answer(rt: &impl Print, answer: Result<(), Refusal>) -> io::Result<()> 
     }
 }
 
-// Checks the deck at word `at` of the data. Answers the word after it, or 0 if it is malformed.
-fn check_one(rt: &impl Print, data: &[u8], at: usize, room: &mut [u8]) -> io::Result<usize> {
+// Checks the deck at word `at` of the data. Answers the word after it; none if it is malformed.
+fn check_one(
+    rt: &impl Print,
+    data: &[u8],
+    at: usize,
+    room: &mut [u8],
+) -> io::Result<Option<usize>> {
     let Some(case) = cases::decks::deck_at(data, at, room) else {
-        return Ok(0);
+        return Ok(None);
     };
     let answer = deck::check_deck(part(room, 0, case.length));
     rt.write_all(part(data, case.name, case.name_end))?;
     print_answer(rt, answer)?;
     rt.write_all(b"\n")?;
-    Ok(case.next)
+    Ok(Some(case.next))
 }
 
 fn main(rt: HostRuntime) -> io::Result<()> {
-    let mut data = room::bytes::<600000>();
+    let mut data: [u8; 600000] = blank(0);
     let n = read_full(&mut rt.stdin(), &mut data)?;
     let data = &data[..n];
-    let mut deck = room::bytes::<2000000>();
+    let mut deck: [u8; 2000000] = blank(0);
     let decks = each_case(n / 4, |at| check_one(&rt, data, at, &mut deck))?;
     println!(rt; "{decks} decks")
 }

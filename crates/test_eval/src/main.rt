@@ -17,12 +17,12 @@ use answers::Lent;
 use cases::each::each_case;
 use cases::input::read_full;
 use cases::numbers::number_at;
-use cases::room;
+use cases::room::blank;
 use cases::words::part;
 use lent::Case;
 use std::io;
 
-// Asks what the data say of an expanded case. Answers the place after it, or 0 if there is too
+// Asks what the data say of an expanded case. Answers the place after it; none if there is too
 // little room for the case.
 fn ask(
     rt: &impl Print,
@@ -31,15 +31,9 @@ fn ask(
     deck: &[u8],
     labels: &[u64],
     edges: &[[u32; 3]],
-) -> io::Result<usize> {
-    if case.deck > deck.len() {
-        return Ok(0);
-    }
-    if case.labels > labels.len() {
-        return Ok(0);
-    }
-    if case.edges > edges.len() {
-        return Ok(0);
+) -> io::Result<Option<usize>> {
+    if case.deck > deck.len() || case.labels > labels.len() || case.edges > edges.len() {
+        return Ok(None);
     }
     let lent = Lent {
         deck: part(deck, 0, case.deck),
@@ -48,22 +42,22 @@ fn ask(
         edges: &edges[..case.edges],
         edge_count: case.edge_count,
     };
-    answers::answer(rt, data, case.next, &lent)
+    answers::answer(rt, data, case.next, &lent).map(Some)
 }
 
-// Prints the name at place `at` of the data. Answers the place after it, or 0 if it is malformed.
-fn print_name(rt: &impl Print, data: &[u8], at: usize) -> io::Result<usize> {
+// Prints the name at place `at` of the data. Answers the place after it; none if it is malformed.
+fn print_name(rt: &impl Print, data: &[u8], at: usize) -> io::Result<Option<usize>> {
     let name = number_at(data, at);
     let start = name.next;
     if start > data.len() {
-        return Ok(0);
+        return Ok(None);
     }
     let end = start + name.value as usize;
     rt.write_all(part(data, start, end))?;
-    Ok(end)
+    Ok(Some(end))
 }
 
-// Runs the case at place `at` of the data. Answers the place after it, or 0 if it is malformed.
+// Runs the case at place `at` of the data. Answers the place after it; none if it is malformed.
 fn run_one(
     rt: &impl Print,
     data: &[u8],
@@ -71,23 +65,22 @@ fn run_one(
     deck: &mut [u8],
     labels: &mut [u64],
     edges: &mut [[u32; 3]],
-) -> io::Result<usize> {
-    let end = print_name(rt, data, at)?;
-    if end <= at {
-        return Ok(0);
-    }
+) -> io::Result<Option<usize>> {
+    let Some(end) = print_name(rt, data, at)?.filter(|end| at < *end) else {
+        return Ok(None);
+    };
     let case = lent::expand(data, end, deck, labels, edges);
     ask(rt, data, case, deck, labels, edges)
 }
 
 fn main(rt: HostRuntime) -> io::Result<()> {
-    let mut data = room::bytes::<200000>();
+    let mut data: [u8; 200000] = blank(0);
     let n = read_full(&mut rt.stdin(), &mut data)?;
     let data = &data[..n];
-    let mut deck = room::bytes::<16384>();
+    let mut deck: [u8; 16384] = blank(0);
     // A word of labels for one element more than there may be.
-    let mut labels = room::labels::<65537>();
-    let mut edges = room::edges::<64>();
+    let mut labels: [u64; 65537] = blank(0);
+    let mut edges: [[u32; 3]; 64] = blank([0; 3]);
     let cases = each_case(n, |at| {
         run_one(&rt, data, at, &mut deck, &mut labels, &mut edges)
     })?;

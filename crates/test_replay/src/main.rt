@@ -12,12 +12,14 @@ mod data;
 ghost use Rattle.std.specs.Prelude.{◌≡◌, length};
 
 use build::tally::Tally;
+use cases::each::each_case;
 use cases::input::read_full;
-use cases::room;
+use cases::room::{Lent, blank};
 use cases::words::{MOST, after, part};
-use compared::{Compared, differing, expect};
+use compared::{Built, Compared};
 use data::{ASKED, Asked};
 use model::outcome::Outcome;
+use model::run::run;
 use std::io;
 
 fn outcome_number(outcome: Outcome) -> u32 {
@@ -28,17 +30,11 @@ fn outcome_number(outcome: Outcome) -> u32 {
     }
 }
 
-fn expect_tally(
-    rt: &impl Print,
-    data: &[u8],
-    c: Compared,
-    outcome: Outcome,
-    t: Tally,
-) -> io::Result<Compared> {
-    let outcomes = expect(rt, data, c, outcome_number(outcome))?;
-    let elements = expect(rt, data, outcomes, t.elements)?;
-    let edges = expect(rt, data, elements, t.edges)?;
-    expect(rt, data, edges, t.reasons)
+fn expect_tally(rt: &impl Print, c: &mut Compared, outcome: Outcome, t: Tally) -> io::Result<()> {
+    c.expect(rt, outcome_number(outcome))?;
+    c.expect(rt, t.elements)?;
+    c.expect(rt, t.edges)?;
+    c.expect(rt, t.reasons)
 }
 
 // The words of the log that the reasons take.
@@ -52,89 +48,82 @@ fn log_words(reasons: u32) -> u32 {
 // What a run left in the buffers.
 fn expect_left(
     rt: &impl Print,
-    data: &[u8],
-    c: Compared,
+    c: &mut Compared,
     asked: Asked,
     t: Tally,
     deck: &[u8],
-    labels: &[u64],
-    edges: &[[u32; 3]],
-    log: &[u32],
-    verdicts: &[u32],
-) -> io::Result<Compared> {
-    let one = compared::expect_labels(rt, data, c, labels, asked.label_words)?;
-    let two = compared::expect_edges(rt, data, one, edges, t.edges)?;
-    let three = compared::expect_words(rt, data, two, log, log_words(t.reasons))?;
-    let four = compared::expect_words(rt, data, three, verdicts, asked.verdict_words)?;
-    compared::expect_concepts(
-        rt,
-        data,
-        four,
+    lent: &Lent,
+) -> io::Result<()> {
+    let built = Built {
         deck,
-        labels,
-        edges,
-        t.elements,
-        t.edges,
-        asked.concepts,
-    )
+        labels: lent.labels,
+        elements: t.elements,
+        edges: lent.edges,
+        edge_count: t.edges,
+    };
+    c.expect_labels(rt, lent.labels, asked.label_words)?;
+    c.expect_edges(rt, lent.edges, t.edges)?;
+    c.expect_words(rt, lent.log, log_words(t.reasons))?;
+    c.expect_words(rt, lent.verdicts, asked.verdict_words)?;
+    c.expect_concepts(rt, built, asked.concepts)
 }
 
 // A run that is refused differs in its first word.
 fn expect_run(
     rt: &impl Print,
-    data: &[u8],
-    c: Compared,
+    c: &mut Compared,
     asked: Asked,
     deck: &[u8],
-    labels: &mut [u64],
-    edges: &mut [[u32; 3]],
-    log: &mut [u32],
-    verdicts: &mut [u32],
-) -> io::Result<Compared> {
-    let bounds = asked.bounds;
-    let last = asked.last_phase;
-    match model::run::run(deck, bounds, last, labels, edges, log, verdicts) {
-        Err(refusal) => expect(rt, data, c, 1000 + refusal.number() % 100),
+    lent: &mut Lent,
+) -> io::Result<()> {
+    let labels = &mut *lent.labels;
+    let edges = &mut *lent.edges;
+    let log = &mut *lent.log;
+    let verdicts = &mut *lent.verdicts;
+    match run(
+        deck,
+        asked.bounds,
+        asked.last_phase,
+        labels,
+        edges,
+        log,
+        verdicts,
+    ) {
+        Err(refusal) => c.expect(rt, 1000 + refusal.number() % 100),
         Ok((outcome, t)) => {
-            let told = expect_tally(rt, data, c, outcome, t)?;
-            expect_left(rt, data, told, asked, t, deck, labels, edges, log, verdicts)
+            expect_tally(rt, c, outcome, t)?;
+            expect_left(rt, c, asked, t, deck, lent)
         }
     }
 }
 
 // Runs the case at word `at` of the data, which `c` has come to. A case that does not end where it says counts as a
-// difference, and what is compared next is the case after it.
+// difference, and what is compared next is the case after it. Answers the word after the case.
 fn replay_one(
     rt: &impl Print,
     data: &[u8],
-    c: Compared,
-    labels: &mut [u64],
-    edges: &mut [[u32; 3]],
-    log: &mut [u32],
-    verdicts: &mut [u32],
-) -> io::Result<Compared> {
-    let at = c.at;
+    at: usize,
+    c: &mut Compared,
+    lent: &mut Lent,
+) -> io::Result<Option<usize>> {
     let asked = data::asked_at(data, at);
     let end = after(at, asked.words as usize);
     if at > MOST {
-        return Ok(differing(c, end));
+        c.differ(end);
+        return Ok(Some(end));
     }
     let deck_start = (at + ASKED) * 4;
     let deck_end = deck_start + asked.deck_words as usize * 4;
     if deck_end > data.len() {
-        return Ok(differing(c, end));
+        c.differ(end);
+        return Ok(Some(end));
     }
-    let begun = Compared {
-        at: deck_end / 4,
-        words: c.words,
-        differences: c.differences,
-    };
-    let deck = part(data, deck_start, deck_end);
-    let done = expect_run(rt, data, begun, asked, deck, labels, edges, log, verdicts)?;
-    if done.at == end {
-        return Ok(done);
+    c.at = deck_end / 4;
+    expect_run(rt, c, asked, part(data, deck_start, deck_end), lent)?;
+    if c.at != end {
+        c.differ(end);
     }
-    Ok(differing(done, end))
+    Ok(Some(end))
 }
 
 fn print_count(rt: &impl Print, name: &[u8], n: u64) -> io::Result<()> {
@@ -143,29 +132,16 @@ fn print_count(rt: &impl Print, name: &[u8], n: u64) -> io::Result<()> {
 }
 
 // Runs all cases of the data, and prints how many there are, how many words were compared, and how many differed.
-fn replay_all(
-    rt: &impl Print,
-    data: &[u8],
-    labels: &mut [u64],
-    edges: &mut [[u32; 3]],
-    log: &mut [u32],
-    verdicts: &mut [u32],
-) -> io::Result<()> {
-    let mut cases: u64 = 0;
+fn replay_all(rt: &impl Print, data: &[u8], lent: &mut Lent) -> io::Result<()> {
     let mut c = Compared {
+        data,
         at: 0,
         words: 0,
         differences: 0,
     };
-    let mut at = 0;
-    while at < data.len() / 4 {
-        c = replay_one(rt, data, c, labels, edges, log, verdicts)?;
-        let next = c.at;
-        if next <= at {
-            return rt.write_all(b"malformed\n");
-        }
-        at = next;
-        cases = cases.wrapping_add(1);
+    let cases = each_case(data.len() / 4, |at| replay_one(rt, data, at, &mut c, lent))?;
+    if c.at < data.len() / 4 {
+        return rt.write_all(b"malformed\n");
     }
     print_count(rt, b"cases ", cases)?;
     print_count(rt, b"words compared ", c.words)?;
@@ -173,18 +149,17 @@ fn replay_all(
 }
 
 fn main(rt: HostRuntime) -> io::Result<()> {
-    let mut data = room::bytes::<400000>();
+    let mut data: [u8; 400000] = blank(0);
     let n = read_full(&mut rt.stdin(), &mut data)?;
-    let mut labels = room::labels::<600>();
-    let mut edges = room::edges::<130>();
-    let mut log = room::words::<300>();
-    let mut verdicts = room::words::<300>();
-    replay_all(
-        &rt,
-        &data[..n],
-        &mut labels,
-        &mut edges,
-        &mut log,
-        &mut verdicts,
-    )
+    let mut labels: [u64; 600] = blank(0);
+    let mut edges: [[u32; 3]; 130] = blank([0; 3]);
+    let mut log: [u32; 300] = blank(0);
+    let mut verdicts: [u32; 300] = blank(0);
+    let mut lent = Lent {
+        labels: &mut labels,
+        edges: &mut edges,
+        log: &mut log,
+        verdicts: &mut verdicts,
+    };
+    replay_all(&rt, &data[..n], &mut lent)
 }

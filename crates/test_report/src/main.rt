@@ -13,7 +13,7 @@ ghost use Rattle.std.specs.Prelude.{◌≡◌, length};
 
 use cases::each::each_case;
 use cases::input::read_full;
-use cases::room;
+use cases::room::{blank, mark_all};
 use cases::words::part;
 use std::io;
 
@@ -22,33 +22,19 @@ fn mark(at: usize) -> u8 {
     128 + (at % 100) as u8
 }
 
-fn mark_all(room: &mut [u8]) {
-    for i in 0..room.len() {
-        room[i] = mark(i);
-    }
-}
-
 // How many bytes from place `from` on are not as they were marked.
-fn strays(room: &[u8], from: usize) -> u64 {
-    let mut found: u64 = 0;
-    for i in from..room.len() {
-        found = found.wrapping_add(u64::from(room[i] != mark(i)));
-    }
-    found
+fn strays(room: &[u8], from: usize) -> usize {
+    (from..room.len()).filter(|i| room[*i] != mark(*i)).count()
 }
 
 // How many of the first bytes differ, as far as both go.
-fn differences(one: &[u8], other: &[u8]) -> u64 {
-    let mut found: u64 = 0;
-    for (a, b) in one.iter().zip(other) {
-        found = found.wrapping_add(u64::from(a != b));
-    }
-    found
+fn differences(one: &[u8], other: &[u8]) -> usize {
+    one.iter().zip(other).filter(|(a, b)| a != b).count()
 }
 
 // Marks the room, and asks for the text in its first `length` bytes. Answers the text's length.
 fn ask(deck: &[u8], room: &mut [u8], length: usize) -> usize {
-    mark_all(room);
+    mark_all(room, mark);
     if length > room.len() {
         return 0;
     }
@@ -56,13 +42,13 @@ fn ask(deck: &[u8], room: &mut [u8], length: usize) -> usize {
 }
 
 // Asks in a buffer that is too short. Answers how much is wrong.
-fn too_short(deck: &[u8], room: &mut [u8], length: usize) -> u64 {
+fn too_short(deck: &[u8], room: &mut [u8], length: usize) -> usize {
     let n = ask(deck, room, length);
-    strays(room, 0).wrapping_add(u64::from(n != 0))
+    strays(room, 0).wrapping_add(usize::from(n != 0))
 }
 
 // Asks for a text of n bytes in one byte less.
-fn one_short(deck: &[u8], room: &mut [u8], n: usize) -> u64 {
+fn one_short(deck: &[u8], room: &mut [u8], n: usize) -> usize {
     if n == 0 {
         return 0;
     }
@@ -70,14 +56,14 @@ fn one_short(deck: &[u8], room: &mut [u8], n: usize) -> u64 {
 }
 
 // Asks for a text again, in a buffer of its length. Answers how much is wrong.
-fn again_in(deck: &[u8], room: &mut [u8], text: &[u8]) -> u64 {
+fn again_in(deck: &[u8], room: &mut [u8], text: &[u8]) -> usize {
     let n = ask(deck, room, text.len());
     differences(text, room)
         .wrapping_add(strays(room, text.len()))
-        .wrapping_add(u64::from(n != text.len()))
+        .wrapping_add(usize::from(n != text.len()))
 }
 
-fn print_faults(rt: &impl Print, faults: u64) -> io::Result<()> {
+fn print_faults(rt: &impl Print, faults: usize) -> io::Result<()> {
     if faults == 0 {
         rt.write_all(b"untouched\n")
     } else {
@@ -102,7 +88,7 @@ fn print_text(rt: &impl Print, deck: &[u8], wide: &mut [u8], tight: &mut [u8]) -
     print_faults(rt, faults)
 }
 
-// Prints the name and the text of the deck at word `at` of the data. Answers the word after it, or 0 if
+// Prints the name and the text of the deck at word `at` of the data. Answers the word after it; none if
 // it is malformed.
 fn report_one(
     rt: &impl Print,
@@ -111,24 +97,24 @@ fn report_one(
     room: &mut [u8],
     wide: &mut [u8],
     tight: &mut [u8],
-) -> io::Result<usize> {
+) -> io::Result<Option<usize>> {
     let Some(case) = cases::decks::deck_at(data, at, room) else {
-        return Ok(0);
+        return Ok(None);
     };
     rt.write_all(part(data, case.name, case.name_end))?;
     rt.write_all(b"\n")?;
     print_text(rt, part(room, 0, case.length), wide, tight)?;
-    Ok(case.next)
+    Ok(Some(case.next))
 }
 
 fn main(rt: HostRuntime) -> io::Result<()> {
-    let mut data = room::bytes::<100000>();
+    let mut data: [u8; 100000] = blank(0);
     let n = read_full(&mut rt.stdin(), &mut data)?;
     let data = &data[..n];
     // A deck of a word more than the program takes, and the longest text.
-    let mut deck = room::bytes::<65540>();
-    let mut wide = room::bytes::<131072>();
-    let mut tight = room::bytes::<131072>();
+    let mut deck: [u8; 65540] = blank(0);
+    let mut wide: [u8; 131072] = blank(0);
+    let mut tight: [u8; 131072] = blank(0);
     let cases = each_case(n / 4, |at| {
         report_one(&rt, data, at, &mut deck, &mut wide, &mut tight)
     })?;

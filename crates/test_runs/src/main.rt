@@ -19,10 +19,11 @@ use asked::Asked;
 use build::tally::Tally;
 use cases::each::each_case;
 use cases::input::read_full;
-use cases::room;
+use cases::room::{Lent, blank};
 use cases::words::{MOST, part, word_or_0};
 use deck::refusal::Refusal;
 use model::outcome::Outcome;
+use model::run::run;
 use std::io;
 
 fn print_number(rt: &impl Print, n: u32) -> io::Result<()> {
@@ -64,49 +65,24 @@ fn print_stray(rt: &impl Print, stray: u64) -> io::Result<()> {
     }
 }
 
-fn mark_all(labels: &mut [u64], edges: &mut [[u32; 3]], log: &mut [u32], verdicts: &mut [u32]) {
-    marks::mark_labels(labels);
-    marks::mark_edges(edges);
-    marks::mark_words(log);
-    marks::mark_words(verdicts);
-}
-
-fn show_all(
-    rt: &impl Print,
-    labels: &[u64],
-    edges: &[[u32; 3]],
-    log: &[u32],
-    verdicts: &[u32],
-) -> io::Result<()> {
-    let in_labels = marks::show_labels(rt, labels)?;
-    let in_edges = marks::show_edges(rt, edges)?;
-    let in_log = marks::show_words(rt, b"log", log)?;
-    let in_verdicts = marks::show_words(rt, b"verdicts", verdicts)?;
-    let stray = in_labels
-        .wrapping_add(in_edges)
-        .wrapping_add(in_log)
-        .wrapping_add(in_verdicts);
-    print_stray(rt, stray)
-}
-
 // Runs a case over buffers of exactly the lengths that it asks for, and prints what comes of it.
-fn run_in(
-    rt: &impl Print,
-    deck: &[u8],
-    asked: Asked,
-    labels: &mut [u64],
-    edges: &mut [[u32; 3]],
-    log: &mut [u32],
-    verdicts: &mut [u32],
-) -> io::Result<()> {
-    mark_all(labels, edges, log, verdicts);
-    let bounds = asked.bounds;
-    let last = asked.last_phase;
-    print_answer(
-        rt,
-        model::run::run(deck, bounds, last, labels, edges, log, verdicts),
-    )?;
-    show_all(rt, labels, edges, log, verdicts)
+fn run_in(rt: &impl Print, deck: &[u8], asked: Asked, lent: &mut Lent) -> io::Result<()> {
+    marks::mark_lent(lent);
+    let labels = &mut *lent.labels;
+    let edges = &mut *lent.edges;
+    let log = &mut *lent.log;
+    let verdicts = &mut *lent.verdicts;
+    let answer = run(
+        deck,
+        asked.bounds,
+        asked.last_phase,
+        labels,
+        edges,
+        log,
+        verdicts,
+    );
+    print_answer(rt, answer)?;
+    print_stray(rt, marks::show_lent(rt, lent)?)
 }
 
 // Runs a case over parts of the room. Answers false if there is too little of it.
@@ -119,46 +95,27 @@ fn run_asked(
     log: &mut [u32],
     verdicts: &mut [u32],
 ) -> io::Result<bool> {
-    let label_words = asked.labels;
-    let edge_records = asked.edges;
-    let log_words = asked.log;
-    let verdict_words = asked.verdicts;
-    if label_words > labels.len() {
+    if asked.labels > labels.len()
+        || asked.edges > edges.len()
+        || asked.log > log.len()
+        || asked.verdicts > verdicts.len()
+    {
         return Ok(false);
     }
-    if edge_records > edges.len() {
-        return Ok(false);
-    }
-    if log_words > log.len() {
-        return Ok(false);
-    }
-    if verdict_words > verdicts.len() {
-        return Ok(false);
-    }
-    run_in(
-        rt,
-        deck,
-        asked,
-        &mut labels[..label_words],
-        &mut edges[..edge_records],
-        &mut log[..log_words],
-        &mut verdicts[..verdict_words],
-    )?;
+    let mut lent = Lent {
+        labels: &mut labels[..asked.labels],
+        edges: &mut edges[..asked.edges],
+        log: &mut log[..asked.log],
+        verdicts: &mut verdicts[..asked.verdicts],
+    };
+    run_in(rt, deck, asked, &mut lent)?;
     Ok(true)
 }
 
-// Runs the case at word `at` of the data. Answers the word after it, or 0 if it is malformed.
-fn run_one(
-    rt: &impl Print,
-    data: &[u8],
-    at: usize,
-    labels: &mut [u64],
-    edges: &mut [[u32; 3]],
-    log: &mut [u32],
-    verdicts: &mut [u32],
-) -> io::Result<usize> {
+// Runs the case at word `at` of the data. Answers the word after it; none if it is malformed.
+fn run_one(rt: &impl Print, data: &[u8], at: usize, room: &mut Lent) -> io::Result<Option<usize>> {
     if at > MOST {
-        return Ok(0);
+        return Ok(None);
     }
     let name_length = word_or_0(data, at) as usize;
     let deck_length = word_or_0(data, at + 1) as usize;
@@ -168,42 +125,35 @@ fn run_one(
     let deck_start = (at + 10 + (name_length + 3) / 4) * 4;
     let deck_end = deck_start + deck_length;
     if name_end > data.len() || deck_end > data.len() {
-        return Ok(0);
+        return Ok(None);
     }
     rt.write_all(part(data, name_start, name_end))?;
-    if !run_asked(
-        rt,
-        part(data, deck_start, deck_end),
-        asked,
-        labels,
-        edges,
-        log,
-        verdicts,
-    )? {
-        return Ok(0);
+    let deck = part(data, deck_start, deck_end);
+    let labels = &mut *room.labels;
+    let edges = &mut *room.edges;
+    let log = &mut *room.log;
+    let verdicts = &mut *room.verdicts;
+    if !run_asked(rt, deck, asked, labels, edges, log, verdicts)? {
+        return Ok(None);
     }
-    Ok((deck_end + 3) / 4)
+    Ok(Some((deck_end + 3) / 4))
 }
 
 fn main(rt: HostRuntime) -> io::Result<()> {
-    let mut data = room::bytes::<300000>();
+    let mut data: [u8; 300000] = blank(0);
     let n = read_full(&mut rt.stdin(), &mut data)?;
     let data = &data[..n];
     // A word of labels for one element more than a bound allows.
-    let mut labels = room::labels::<65600>();
-    let mut edges = room::edges::<400>();
-    let mut log = room::words::<2000>();
-    let mut verdicts = room::words::<2000>();
-    let cases = each_case(n / 4, |at| {
-        run_one(
-            &rt,
-            data,
-            at,
-            &mut labels,
-            &mut edges,
-            &mut log,
-            &mut verdicts,
-        )
-    })?;
+    let mut labels: [u64; 65600] = blank(0);
+    let mut edges: [[u32; 3]; 400] = blank([0; 3]);
+    let mut log: [u32; 2000] = blank(0);
+    let mut verdicts: [u32; 2000] = blank(0);
+    let mut room = Lent {
+        labels: &mut labels,
+        edges: &mut edges,
+        log: &mut log,
+        verdicts: &mut verdicts,
+    };
+    let cases = each_case(n / 4, |at| run_one(&rt, data, at, &mut room))?;
     println!(rt; "{cases} cases")
 }

@@ -2,6 +2,7 @@
 // run writes (tests/make_runs.py sees to that). So the words that a run wrote can be told.
 ghost use Rattle.std.specs.Prelude.{◌<◌};
 
+use cases::room::{Lent, mark_all};
 use std::io;
 
 // The mark at place `at`.
@@ -20,97 +21,88 @@ fn edge_mark(at: usize) -> [u32; 3] {
     [first, first + 1000000, first + 2000000]
 }
 
-// Marks each place of a buffer.
-fn mark_all<T: Drop, F: Fn(usize) -> T>(room: &mut [T], mark: F)
-    requires { F.IsAlwaysCallable mark }
-{
-    for i in 0..room.len() {
-        room[i] = mark(i);
-    }
+// Marks each place of the buffers.
+pub fn mark_lent(lent: &mut Lent) {
+    mark_all(lent.labels, label_mark);
+    mark_all(lent.edges, edge_mark);
+    mark_all(lent.log, mark);
+    mark_all(lent.verdicts, mark);
 }
 
-pub fn mark_labels(labels: &mut [u64]) {
-    mark_all(labels, label_mark);
-}
-
-pub fn mark_edges(edges: &mut [[u32; 3]]) {
-    mark_all(edges, edge_mark);
-}
-
-pub fn mark_words(words: &mut [u32]) {
-    mark_all(words, mark);
-}
-
-// How far a buffer has been seen: whether every word so far was written, and how many were written
-// after one that was not.
-#[derive(Clone, Copy)]
-struct Seen {
-    front: bool,
-    stray: u64,
-}
-
-impl Seen {
-    fn new() -> Seen {
-        Seen {
-            front: true,
-            stray: 0,
+// One more word of a buffer, which was `before`, and how many of it were written after one that was not; none while every
+// word so far was written. Those are printed.
+fn next(rt: &impl Print, strays: Option<u64>, word: u64, before: u64) -> io::Result<Option<u64>> {
+    match strays {
+        None if word != before => {
+            print!(rt; " {word}")?;
+            Ok(None)
         }
+        _ => Ok(Some(strays.unwrap_or(0).wrapping_add(u64::from(word != before)))),
     }
 }
 
-// One more word, which was `before`. Words of the front are printed.
-fn next(rt: &impl Print, seen: Seen, word: u64, before: u64) -> io::Result<Seen> {
-    if word == before {
-        return Ok(Seen {
-            front: false,
-            stray: seen.stray,
-        });
+// Prints a line: the buffer's name, and its words up to the first that stands as it was marked. `show_item` takes an item, and
+// what it was. Answers how many words after that were written.
+fn show<T: Copy, S: Fn(Option<u64>, T, T) -> io::Result<Option<u64>>, M: Fn(usize) -> T>(
+    rt: &impl Print,
+    name: &[u8],
+    buffer: &[T],
+    mark: M,
+    show_item: S,
+) -> io::Result<u64>
+    requires mark { M.IsAlwaysCallable mark }
+    requires show_item { S.IsAlwaysCallable show_item }
+{
+    rt.write_all(name)?;
+    let mut strays = None;
+    for (i, item) in buffer.iter().enumerate() {
+        strays = show_item(strays, *item, mark(i))?;
     }
-    if seen.front {
-        print!(rt; " {word}")?;
-        return Ok(seen);
+    rt.write_all(b"\n")?;
+    Ok(strays.unwrap_or(0))
+}
+
+fn next_edge(
+    rt: &impl Print,
+    strays: Option<u64>,
+    edge: [u32; 3],
+    before: [u32; 3],
+) -> io::Result<Option<u64>> {
+    let mut strays = strays;
+    for i in 0..3 {
+        strays = next(rt, strays, u64::from(edge[i]), u64::from(before[i]))?;
     }
-    Ok(Seen {
-        front: false,
-        stray: seen.stray.wrapping_add(1),
+    Ok(strays)
+}
+
+fn show_words(rt: &impl Print, name: &[u8], words: &[u32]) -> io::Result<u64> {
+    show(rt, name, words, mark, |strays, word, before| {
+        next(rt, strays, u64::from(word), u64::from(before))
     })
 }
 
-fn next_edge(rt: &impl Print, seen: Seen, edge: [u32; 3], before: [u32; 3]) -> io::Result<Seen> {
-    let one = next(rt, seen, u64::from(edge[0]), u64::from(before[0]))?;
-    let two = next(rt, one, u64::from(edge[1]), u64::from(before[1]))?;
-    next(rt, two, u64::from(edge[2]), u64::from(before[2]))
-}
-
-// A line is the buffer's name and its words up to the first that stands as it was marked. The
-// answer is how many after that were written.
-
-pub fn show_labels(rt: &impl Print, labels: &[u64]) -> io::Result<u64> {
-    rt.write_all(b"labels")?;
-    let mut seen = Seen::new();
-    for i in 0..labels.len() {
-        seen = next(rt, seen, labels[i], label_mark(i))?;
-    }
-    rt.write_all(b"\n")?;
-    Ok(seen.stray)
-}
-
-pub fn show_edges(rt: &impl Print, edges: &[[u32; 3]]) -> io::Result<u64> {
-    rt.write_all(b"edges")?;
-    let mut seen = Seen::new();
-    for i in 0..edges.len() {
-        seen = next_edge(rt, seen, edges[i], edge_mark(i))?;
-    }
-    rt.write_all(b"\n")?;
-    Ok(seen.stray)
-}
-
-pub fn show_words(rt: &impl Print, name: &[u8], words: &[u32]) -> io::Result<u64> {
-    rt.write_all(name)?;
-    let mut seen = Seen::new();
-    for i in 0..words.len() {
-        seen = next(rt, seen, u64::from(words[i]), u64::from(mark(i)))?;
-    }
-    rt.write_all(b"\n")?;
-    Ok(seen.stray)
+// Prints a line for each buffer. Answers how many words were written past the first that was not.
+pub fn show_lent(rt: &impl Print, lent: &Lent) -> io::Result<u64> {
+    let in_labels = show(
+        rt,
+        b"labels",
+        lent.labels,
+        label_mark,
+        |strays, word, before| next(rt, strays, word, before),
+    )?;
+    let in_edges = show(
+        rt,
+        b"edges",
+        lent.edges,
+        edge_mark,
+        |strays, edge, before| next_edge(rt, strays, edge, before),
+    )?;
+    let in_log = show_words(rt, b"log", lent.log)?;
+    let in_verdicts = show_words(rt, b"verdicts", lent.verdicts)?;
+    Ok(
+        in_labels
+            .wrapping_add(in_edges)
+            .wrapping_add(in_log)
+            .wrapping_add(in_verdicts),
+    )
 }

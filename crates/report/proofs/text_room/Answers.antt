@@ -1,9 +1,6 @@
-use mathlib.Core.Path.{refl}
-use borrow.Author.Rules.{rules}
 use Rattle.report.specs.Text.{text_room}
 use Rattle.report.proofs.text_room.Goals as goal
 
-pub returns : goal.returns
+pub returns-clause-value : goal.returns-clause-value
 unfolding text_room
-returns c =
-    record { value = refl; value_2 = search rules }
+returns-clause-value c = c.blank.ensures.value
