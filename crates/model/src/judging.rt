@@ -17,7 +17,7 @@ use deck::concepts::concept_count;
 use eval::bytes::{check_axiom, equip};
 use eval::equip::is_small;
 use eval::shape::Shape;
-use eval::verdict::{Verdict, verdict_words};
+use eval::verdict::Verdict;
 
 // Whether an axiom failed, and whether one was left open.
 #[derive(Clone, Copy)]
@@ -151,7 +151,7 @@ fn judge_each(
     let mut i: u32 = 0;
     while i < count {
         verdict = judge_next(deck, labels, edges, shape, index, memo, i, verdict);
-        let w = verdict_words(verdict);
+        let w = <[u32; 4]>::from(verdict);
         store_words(verdicts, i as usize * 4, w[0], w[1], w[2], w[3]);
         judged = add(judged, verdict);
         i += 1;

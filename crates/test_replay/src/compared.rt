@@ -112,7 +112,7 @@ fn judgement_word(answer: Result<Judgement, Refusal>) -> u32 {
         Ok(judgement) => match judgement {
             Judgement::False => 0,
             Judgement::True => 1,
-            Judgement::Unresolved(tag) => 2 + tag % 100,
+            Judgement::Unresolved(construct) => 2 + u32::from(construct) % 100,
         },
     }
 }

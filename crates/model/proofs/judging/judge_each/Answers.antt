@@ -30,7 +30,7 @@ overflow_add-i c =
 
 pub loop-i-preserved : goal.loop-i-preserved
 loop-i-preserved c =
-    (omega arith, judging-next _ _ c.loop-i.invariant.1 (omega (arith, c.axiom_count-count.ensures.is)) _ c.judge_next-verdict.ensures.is (stored-words c.loop-i.verdicts (c.loop-i.i * 4) _ c.judge_next-verdict.result c.verdict_words-w.ensures c.store_words.ensures) c.add-judged.ensures, c.judge_next-verdict.auto.memo ∙ c.loop-i.invariant.2, c.judge_next-verdict.ensures.kept, λ _. last-next _ _ c.loop-i.i c.judge_next-verdict.ensures.is)
+    (omega arith, judging-next _ _ c.loop-i.invariant.1 (omega (arith, c.axiom_count-count.ensures.is)) _ c.judge_next-verdict.ensures.is (stored-words c.loop-i.verdicts (c.loop-i.i * 4) _ c.judge_next-verdict.result c.from-w.ensures c.store_words.ensures) c.add-judged.ensures, c.judge_next-verdict.auto.memo ∙ c.loop-i.invariant.2, c.judge_next-verdict.ensures.kept, λ _. last-next _ _ c.loop-i.i c.judge_next-verdict.ensures.is)
 
 pub shape_of-memo : goal.shape_of-memo
 shape_of-memo c =
