@@ -19,7 +19,7 @@ fn word(answer: Result<Judgement, Refusal>) -> u64
         Ok(judgement) => match judgement {
             Judgement::False => 0,
             Judgement::True => 1,
-            Judgement::Unresolved(tag) => 2 + tag as u64,
+            Judgement::Unresolved(construct) => 2 + u32::from(construct) as u64,
         },
     }
 }

@@ -8,6 +8,7 @@ use Rattle.eval.specs.declared.judgement.Judgement.{Judgement}
 use Rattle.eval.specs.declared.judgement.Judgement.TheVariants.{False, True, Unresolved}
 use Rattle.eval.specs.Entry.{ConceptAnswer}
 use Rattle.eval.specs.Entry.{AxiomAnswer}
+use Rattle.eval.specs.Construct.{tag_of}
 use Rattle.eval.specs.Verdict.{words_of}
 use Rattle.model.specs.declared.outcome.Outcome.{Outcome}
 use Rattle.model.specs.declared.outcome.Outcome.TheVariants.{Confirmed, Failed, Open}
@@ -49,7 +50,7 @@ deck_word (Err r) = word_of r
 abbrev pub judgement_words : Judgement → List ℕ
 judgement_words False = 0 ∷ 0 ∷ 0 ∷ 0 ∷ []
 judgement_words True = 1 ∷ 0 ∷ 0 ∷ 0 ∷ []
-judgement_words (Unresolved tag) = 2 ∷ tag ∷ 0 ∷ 0 ∷ []
+judgement_words (Unresolved construct) = 2 ∷ tag_of construct ∷ 0 ∷ 0 ∷ []
 
 abbrev pub judgement_told : ConceptAnswer → List ℕ → Told
 judgement_told (Err r) answer = refused r answer

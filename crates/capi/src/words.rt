@@ -7,7 +7,7 @@ use build::tally::Tally;
 use deck::numbers::WordIndex;
 use deck::refusal::Refusal;
 use eval::judgement::Judgement;
-use eval::verdict::{Verdict, verdict_words};
+use eval::verdict::Verdict;
 use model::outcome::Outcome;
 
 // Stands for the word of a refusal that has none, and of an accepted deck: no deck has so many words.
@@ -46,7 +46,7 @@ fn judgement_words(judgement: Judgement) -> [u32; 4]
     match judgement {
         Judgement::False => [0, 0, 0, 0],
         Judgement::True => [1, 0, 0, 0],
-        Judgement::Unresolved(tag) => [2, tag, 0, 0],
+        Judgement::Unresolved(construct) => [2, u32::from(construct), 0, 0],
     }
 }
 
@@ -86,7 +86,7 @@ pub fn tell_verdict(answer: &mut [u32], checked: Result<Verdict, Refusal>) -> u3
 {
     match checked {
         Err(refusal) => refusal.number(),
-        Ok(verdict) => give(answer, verdict_words(verdict)),
+        Ok(verdict) => give(answer, verdict.into()),
     }
 }
 

@@ -18,10 +18,12 @@ use lib.ListN.{get_or, length, get_or-eq_default}
 use borrow.Author.Tests.{ltb-true, ltb-false}
 use Rattle.deck.specs.Deck.{Deck, Role, role_id, Concept, Axiom, concept_at, role_at, class_count, role_count, concept_count}
 use Rattle.deck.specs.Sound.{Sound, ConceptFits, AxiomFits, counts_in}
+use Rattle.eval.specs.declared.judgement.Construct.TheVariants.{InverseSome}
 use Rattle.eval.specs.declared.judgement.Judgement.{Judgement}
 use Rattle.eval.specs.declared.judgement.Judgement.TheVariants.{Unresolved}
 use Rattle.eval.specs.declared.standing.Standing.{Standing}
 use Rattle.eval.specs.declared.verdict.Witnesses.{Witnesses}
+use Rattle.eval.specs.declared.verdict.Unhandled.TheVariants.{Inverse}
 use Rattle.eval.specs.declared.verdict.Verdict.TheVariants.{Holds, UnhandledAxiom}
 use Rattle.eval.specs.Standing.{fresh, and_next, some_next}
 use Rattle.eval.specs.Lists.{range, keep, every, any}
@@ -114,7 +116,7 @@ module _ (D : Deck) (W : Sound D) (S T : Structure) (Q : Agree D S T) where
   judge-of c (Concept.And os) h ih e l = and_same (λ o. judge D S o e) (λ o. judge D T o e) fresh os (λ o m. ih o (each_below c os h o m) e l)
   judge-of c (Concept.Or os) h ih e l = refl
   judge-of c (Concept.Some r b) h ih e l =
-      ap (cond (inverse r) (Unresolved 8))
+      ap (cond (inverse r) (Unresolved InverseSome))
       (some-asks (judge D S b) (judge D T b) fresh (successors_of D S r e) (λ t m. ih b h.1 t (in-elements S t (in-keep (has_pair D S r e) (elements S) t m).0))
       ∙ ap (some_from (judge D T b) fresh) (word-successors-agree r e l))
   judge-of c (Concept.All r b) h ih e l = refl
@@ -163,7 +165,7 @@ module _ (D : Deck) (W : Sound D) (S T : Structure) (Q : Agree D S T) where
   unfolding verdict
   chain-agree [] sup = refl
   chain-agree (a ∷ []) sup = refl
-  chain-agree (a ∷ b ∷ []) sup = ap (cond (any_inverse (a ∷ b ∷ sup ∷ [])) (UnhandledAxiom 5 1)) (composed-agree (role_id a) (role_id b) (role_id sup))
+  chain-agree (a ∷ b ∷ []) sup = ap (cond (any_inverse (a ∷ b ∷ sup ∷ [])) (UnhandledAxiom 5 Inverse)) (composed-agree (role_id a) (role_id b) (role_id sup))
   chain-agree (a ∷ b ∷ c ∷ l) sup = refl
 
   pub verdict-agree : (a : Axiom) → verdict D S a ≡ verdict D T a
@@ -175,16 +177,16 @@ module _ (D : Deck) (W : Sound D) (S T : Structure) (Q : Agree D S T) where
   verdict-agree (Axiom.DisjointClasses l) =
       at-elements (λ e. at_most_one (map (λ c. judge D S c e) l)) (λ e. at_most_one (map (λ c. judge D T c e) l)) (λ e h. ap at_most_one (map_same (λ c. judge D S c e) (λ c. judge D T c e) l (λ c m. judge-agree c e h)))
   verdict-agree (Axiom.DisjointUnion k l) = refl
-  verdict-agree (Axiom.SubObjectPropertyOf sub sup) = ap (cond (any_inverse (sub ∷ sup ∷ [])) (UnhandledAxiom 4 1)) (within-agree sub sup)
+  verdict-agree (Axiom.SubObjectPropertyOf sub sup) = ap (cond (any_inverse (sub ∷ sup ∷ [])) (UnhandledAxiom 4 Inverse)) (within-agree sub sup)
   verdict-agree (Axiom.SubObjectPropertyChain l sup) = chain-agree l sup
-  verdict-agree (Axiom.EquivalentObjectProperties l) = ap (cond (any_inverse l) (UnhandledAxiom 6 1)) (equivalent-agree l)
+  verdict-agree (Axiom.EquivalentObjectProperties l) = ap (cond (any_inverse l) (UnhandledAxiom 6 Inverse)) (equivalent-agree l)
   verdict-agree (Axiom.DisjointObjectProperties l) = refl
   verdict-agree (Axiom.InverseObjectProperties p q) = rw (pairs-agree (role_id p), pairs-agree (role_id q))
   verdict-agree (Axiom.ObjectPropertyDomain r c) =
-      ap (cond (any_inverse (r ∷ [])) (UnhandledAxiom 9 1)) (at-pairs r (λ p. judge D S c p.from) (λ p. judge D T c p.from) (λ p. one p.from) (λ x y e. judge-agree c x e.from_in))
+      ap (cond (any_inverse (r ∷ [])) (UnhandledAxiom 9 Inverse)) (at-pairs r (λ p. judge D S c p.from) (λ p. judge D T c p.from) (λ p. one p.from) (λ x y e. judge-agree c x e.from_in))
   verdict-agree (Axiom.ObjectPropertyRange r c) =
-      ap (cond (any_inverse (r ∷ [])) (UnhandledAxiom 10 1)) (at-pairs r (λ p. judge D S c p.to) (λ p. judge D T c p.to) (λ p. one p.to) (λ x y e. judge-agree c y e.to_in))
-  verdict-agree (Axiom.TransitiveRole r) = ap (cond (any_inverse (r ∷ [])) (UnhandledAxiom 11 1)) (composed-agree (role_id r) (role_id r) (role_id r))
+      ap (cond (any_inverse (r ∷ [])) (UnhandledAxiom 10 Inverse)) (at-pairs r (λ p. judge D S c p.to) (λ p. judge D T c p.to) (λ p. one p.to) (λ x y e. judge-agree c y e.to_in))
+  verdict-agree (Axiom.TransitiveRole r) = ap (cond (any_inverse (r ∷ [])) (UnhandledAxiom 11 Inverse)) (composed-agree (role_id r) (role_id r) (role_id r))
   verdict-agree (Axiom.SymmetricRole r) = rw (pairs-agree (role_id r))
   verdict-agree (Axiom.AsymmetricRole r) = refl
   verdict-agree (Axiom.ReflexiveRole r) = refl

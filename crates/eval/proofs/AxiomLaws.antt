@@ -12,6 +12,7 @@ use Rattle.deck.proofs.CaseLaws.{Cases, case_at}
 use Rattle.deck.proofs.SoundLaws.{sound}
 use Rattle.eval.specs.declared.shape.Shape.{Shape}
 use Rattle.eval.specs.declared.verdict.Verdict.{Verdict}
+use Rattle.eval.specs.declared.verdict.Unhandled.TheVariants.{Variety}
 use Rattle.eval.specs.declared.verdict.Verdict.TheVariants.{Holds, UnhandledAxiom}
 use Rattle.eval.specs.Structure.{Structure}
 use Rattle.eval.specs.Lent.{Fits, structure_of}
@@ -23,13 +24,13 @@ use Rattle.eval.proofs.JustifiedLaws.{justified}
 module _ (D : Deck) (S : Structure) (s : List ℕ) (x y z : ℕ) where
   -- the tag k above a first one
   Left : ℕ → Type 0
-  Left k = UnhandledAxiom (13 + k) 0 ≡ verdict D S (axiom_of s (13 + k) x y z)
+  Left k = UnhandledAxiom (13 + k) Variety ≡ verdict D S (axiom_of s (13 + k) x y z)
 
   left_open : Cases Left 10
   unfolding Left axiom_of make_axiom verdict
   left_open = ((((((((((tt, refl), refl), refl), refl), refl), refl), refl), refl), refl), refl)
 
-  pub unhandled : (tag : ℕ) → 13 ≤ tag → tag < 23 → UnhandledAxiom tag 0 ≡ verdict D S (axiom_of s tag x y z)
+  pub unhandled : (tag : ℕ) → 13 ≤ tag → tag < 23 → UnhandledAxiom tag Variety ≡ verdict D S (axiom_of s tag x y z)
   unfolding Left
   unhandled tag h k = let e : 13 + (tag - 13) ≡ tag = omega arith in rw e at (case_at Left 10 (tag - 13) left_open (omega arith))
 

@@ -8,6 +8,7 @@ use native.Mathlib.Omega.{arith}
 use Rattle.eval.proofs.Clash.{clash}
 use lib.Dec.{eqb}
 use Rattle.deck.specs.Deck.{Deck, Role, role_id}
+use Rattle.eval.specs.declared.judgement.Construct.{Construct}
 use Rattle.eval.specs.declared.judgement.Judgement.{Judgement}
 use Rattle.eval.specs.declared.judgement.Judgement.TheVariants.{False, True, Unresolved}
 use Rattle.eval.specs.declared.verdict.Witnesses.{Witnesses}
@@ -27,7 +28,7 @@ pub truth-false : (b : Bool) → truth b ≡ False → b ≡ false
 truth-false false e = refl
 truth-false true e = clash (cc)
 
-pub truth-open : (b : Bool) (t : ℕ) → truth b ≡ Unresolved t → ⊥
+pub truth-open : (b : Bool) (t : Construct) → truth b ≡ Unresolved t → ⊥
 truth-open true t e = clash (cc)
 truth-open false t e = clash (cc)
 
@@ -98,7 +99,7 @@ module _ (D : Deck) (S : Structure) where
   module _ (C : Verdict → Type 0) where
     pub pairs-case : (r : Role) (f : Pair → Judgement) (w : Pair → Witnesses)
         → ((x y : ℕ) → PairAt r x y → f (pair x y) ≡ False → C (Fails (w (pair x y))))
-        → ((x y t : ℕ) → PairAt r x y → f (pair x y) ≡ Unresolved t → C (UnhandledConcept t))
+        → ((x y : ℕ) (t : Construct) → PairAt r x y → f (pair x y) ≡ Unresolved t → C (UnhandledConcept t))
         → (((x y : ℕ) → PairAt r x y → f (pair x y) ≡ True) → C Holds)
         → C (at_pairs D S r f w)
     pairs-case r f w fails opens holds =

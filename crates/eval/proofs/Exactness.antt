@@ -15,6 +15,7 @@ use lib.ListN.{length}
 use borrow.Author.Tests.{eqb-true, not-true}
 use Rattle.deck.specs.Deck.{Deck, Role, Axiom}
 use Rattle.deck.specs.Sound.{Sound}
+use Rattle.eval.specs.declared.judgement.Construct.{Construct}
 use Rattle.eval.specs.declared.judgement.Judgement.{Judgement}
 use Rattle.eval.specs.declared.judgement.Judgement.TheVariants.{Unresolved}
 use Rattle.eval.specs.declared.verdict.Witnesses.{Witnesses}
@@ -39,7 +40,7 @@ pub data Decided : Verdict → Type 0 where
   it-holds : Decided Holds
   it-fails : (w : Witnesses) → Decided (Fails w)
 
-never-open : (j : Judgement) (t : ℕ) → decided j ≡ true → j ≡ Unresolved t → ⊥
+never-open : (j : Judgement) (t : Construct) → decided j ≡ true → j ≡ Unresolved t → ⊥
 never-open j t d e = let h : false ≡ true = rw e at d in clash (cc)
 
 module _ (D : Deck) (W : Sound D) (S : Structure) where

@@ -7,6 +7,7 @@ use mathlib.Core.List.Memᴰ.{head as here}
 use mathlib.Core.List.Memᴰ.{tail as there}
 use mathlib.Core.List.{List, [], ◌∷◌, map, Memᴰ as Member}
 use Rattle.eval.proofs.Clash.{clash}
+use Rattle.eval.specs.declared.judgement.Construct.{Construct}
 use Rattle.eval.specs.declared.judgement.Judgement.{Judgement}
 use Rattle.eval.specs.declared.judgement.Judgement.TheVariants.{False, True, Unresolved}
 use Rattle.eval.specs.declared.standing.Standing.{Standing}
@@ -36,7 +37,7 @@ some-ended f s (x ∷ xs) e = some-ended f (some_next s (f x)) xs (still (f x))
     still (Unresolved t) = e
 
 -- ---- right of truth values: one step of an And, and one of a Some
-and_right : (ended : Bool) (noted : Option ℕ) (j : Judgement) (b x : Bool)
+and_right : (ended : Bool) (noted : Option Construct) (j : Judgement) (b x : Bool)
     → Right (and_close (record { ended = ended; noted = noted })) b → Right j x
     → Right (and_close (and_next (record { ended = ended; noted = noted }) j)) (b && x)
 and_right ended noted False b x s r = rw (r, and-false)
@@ -44,7 +45,7 @@ and_right ended noted True b x s r = rw (r, and-true) s
 and_right true noted (Unresolved t) b x s r = rw s
 and_right false noted (Unresolved t) b x s r = tt
 
-some_right : (ended : Bool) (noted : Option ℕ) (j : Judgement) (b x : Bool)
+some_right : (ended : Bool) (noted : Option Construct) (j : Judgement) (b x : Bool)
     → Right (some_close (record { ended = ended; noted = noted })) b → Right j x
     → Right (some_close (some_next (record { ended = ended; noted = noted }) j)) (b || x)
 some_right ended noted True b x s r = rw (r, or-true)

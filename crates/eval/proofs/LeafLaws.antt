@@ -14,6 +14,7 @@ use Rattle.deck.specs.Reads.{ConceptRead, expr_of, ExprFits, list_of}
 use Rattle.deck.specs.Content.{IsAccepted, deck_of}
 use Rattle.deck.proofs.SoundLaws.{sound}
 use Rattle.eval.specs.declared.edges.Edge.{Edge}
+use Rattle.eval.specs.declared.judgement.Construct.TheVariants.{InverseSome}
 use Rattle.eval.specs.declared.judgement.Judgement.{Judgement}
 use Rattle.eval.specs.declared.judgement.Judgement.TheVariants.{True, Unresolved}
 use Rattle.eval.specs.declared.shape.Shape.{Shape}
@@ -54,7 +55,7 @@ module _ (s : List ℕ) (A : IsAccepted s) (c : ℕ) {expr : ConceptExpr} (R : C
         let f = leaf-fits (ConceptExpr.Some (record { 0 = w }) (record { 0 = b })) p in
         record { is = sym R.is ∙ ap (expr_of s) p; role = f.0; body = f.1; named = inverse-word w ∙ q }
 
-    pub leaf-inverse : (labels : List ℕ) (shape : Shape) (e : ℕ) → inverse_word w ≡ true → (rows : List (List ℕ)) → Unresolved 8 ≡ judged labels shape e rows
+    pub leaf-inverse : (labels : List ℕ) (shape : Shape) (e : ℕ) → inverse_word w ≡ true → (rows : List (List ℕ)) → Unresolved InverseSome ≡ judged labels shape e rows
     unfolding judge_of
     leaf-inverse labels shape e q rows = rw (inverse-word w ∙ q) at (leaf-is labels shape e (ConceptExpr.Some (record { 0 = w }) (record { 0 = b })) p rows)
 

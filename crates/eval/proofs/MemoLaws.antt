@@ -3,26 +3,27 @@
 --     blank           zeros are one
 --     recalled-right  what a right table has is right
 --     stored-right    a right table with one more right judgement is right
-use Prim.Native.Nat.{ℕ, zero, suc, ◌+◌, ◌-◌, ◌*◌, ◌/◌, ◌%◌, ◌<◌, ◌≤◌}
+use Prim.Native.Nat.{ℕ, zero, suc, ◌+◌, ◌*◌, ◌/◌, ◌%◌, ◌<◌, ◌≤◌}
 use mathlib.Core.Bool.{Bool, true, false, cond}
 use mathlib.Core.Path.{◌≡◌, refl, sym, ap, ◌∙◌}
 use mathlib.Core.Logic.{⊎_elim}
 use mathlib.Core.List.{List}
 use native.Mathlib.Nat.{div-add-mod', mod-lt, mul-le-mul, eq-or-lt_of_le}
 use native.Mathlib.Omega.{arith}
-use borrow.Author.Tests.{eqb-true, eqb-false, ltb-false, eq-eqb, ne_eqb, lt-ltb, le-ltb}
+use borrow.Author.Tests.{eqb-true, eq-eqb, ne_eqb, lt-ltb, le-ltb}
 use lib.Arith.{digits_div, digits_mod}
 use lib.Dec.{eqb, ltb}
 use lib.ListN.{length, get_or, set, length-set, replicate, length-replicate}
 use lib.Seq.{get_or-set_same, get_or-set_other}
 use Rattle.deck.specs.Deck.{Deck}
 use Rattle.deck.proofs.CaseLaws.{lt-or-le}
+use Rattle.eval.specs.declared.judgement.Construct.TheVariants as construct
 use Rattle.eval.specs.declared.judgement.Judgement.{Judgement}
 use Rattle.eval.specs.declared.judgement.Judgement.TheVariants.{False, True, Unresolved}
 use Rattle.std.proofs.Common.{Option, Some, None}
 use Rattle.eval.specs.Equipped.{Blank}
 use Rattle.eval.specs.Judge.{judge}
-use Rattle.eval.specs.Memo.{judgement_of, code_of, key_of, word_for, recalled_as, recalled, stored, Remembers}
+use Rattle.eval.specs.Memo.{judgement_of, code_of, key_of, word_for, recalled, stored, Remembers}
 use Rattle.eval.specs.Structure.{Structure}
 use Rattle.eval.proofs.Clash.{clash}
 
@@ -50,45 +51,33 @@ key-element n c e d f he hf q = sym (digits_mod c he) ∙ ap (λ (x : ℕ). x % 
 pub code_fits : (j : Judgement) → code_of j < 16
 code_fits False = omega arith
 code_fits True = omega arith
-code_fits (Unresolved t) = go (ltb t 2) (ltb 14 t) refl
-  where
-    go : (a b : Bool) → ltb 14 t ≡ b → cond a 0 (cond b 0 (t + 1)) < 16
-    go true b q = omega arith
-    go false true q = omega arith
-    go false false q = omega (arith, ltb-false 14 t q)
+code_fits (Unresolved construct.Nominal) = omega arith
+code_fits (Unresolved construct.SelfRestriction) = omega arith
+code_fits (Unresolved construct.Not) = omega arith
+code_fits (Unresolved construct.Or) = omega arith
+code_fits (Unresolved construct.InverseSome) = omega arith
+code_fits (Unresolved construct.All) = omega arith
+code_fits (Unresolved construct.Min) = omega arith
+code_fits (Unresolved construct.Max) = omega arith
 
-code_is : (j : Judgement) → 0 < code_of j → judgement_of (code_of j) ≡ j
-code_is False h = refl
-code_is True h = refl
-code_is (Unresolved t) h = go (ltb t 2) (ltb 14 t) refl h
-  where
-    go : (a b : Bool) → ltb t 2 ≡ a → 0 < cond a 0 (cond b 0 (t + 1)) → judgement_of (cond a 0 (cond b 0 (t + 1))) ≡ Unresolved t
-    go true b q l = absurd (omega (arith, l))
-    go false true q l = absurd (omega (arith, l))
-    go false false q l =
-        let m = ltb-false t 2 q in
-        let e : (t + 1) - 1 ≡ t = omega arith in
-        rw (ne_eqb (t + 1) 1 (λ x. omega (arith, x, m)), ne_eqb (t + 1) 2 (λ x. omega (arith, x, m)), e)
-
--- one law for each way that the code takes
-pub code-low : {j : Judgement} (t : ℕ) → j ≡ Unresolved t → t < 2 → 0 ≡ code_of j
-code-low t q h = rw (q, lt-ltb t 2 h)
-
-pub code-high : {j : Judgement} (t : ℕ) → j ≡ Unresolved t → 2 ≤ t → 14 < t → 0 ≡ code_of j
-code-high t q l h = rw (q, le-ltb t 2 l, lt-ltb 14 t h)
-
-pub code-tag : {j : Judgement} (t : ℕ) → j ≡ Unresolved t → 2 ≤ t → t ≤ 14 → t + 1 ≡ code_of j
-code-tag t q l h = rw (q, le-ltb t 2 l, le-ltb 14 t h)
-
-pub as-tag : (d : ℕ) → (d ≡ 0 → ⊥) → (d ≡ 1 → ⊥) → (d ≡ 2 → ⊥) → Some (Unresolved (d - 1)) ≡ recalled_as d
-as-tag d a b c = rw (ne_eqb d 0 a, ne_eqb d 1 b, ne_eqb d 2 c)
+code_is : (j : Judgement) → judgement_of (code_of j) ≡ Some j
+code_is False = refl
+code_is True = refl
+code_is (Unresolved construct.Nominal) = refl
+code_is (Unresolved construct.SelfRestriction) = refl
+code_is (Unresolved construct.Not) = refl
+code_is (Unresolved construct.Or) = refl
+code_is (Unresolved construct.InverseSome) = refl
+code_is (Unresolved construct.All) = refl
+code_is (Unresolved construct.Min) = refl
+code_is (Unresolved construct.Max) = refl
 
 module _ (memo : List ℕ) {k n : ℕ} (is : k ≡ n) where
   pub recalled-miss : (get_or memo (k % length memo) 0 / 16 ≡ k / length memo → ⊥) → None ≡ recalled memo n
   unfolding recalled word_for
   recalled-miss h = rw (← is, ne_eqb (get_or memo (k % length memo) 0 / 16) (k / length memo) h)
 
-  pub recalled-hit : {r : Option Judgement} → get_or memo (k % length memo) 0 / 16 ≡ k / length memo → r ≡ recalled_as (get_or memo (k % length memo) 0 % 16) → r ≡ recalled memo n
+  pub recalled-hit : {r : Option Judgement} → get_or memo (k % length memo) 0 / 16 ≡ k / length memo → r ≡ judgement_of (get_or memo (k % length memo) 0 % 16) → r ≡ recalled memo n
   unfolding recalled word_for
   recalled-hit h q = q ∙ rw (← is, eq-eqb (get_or memo (k % length memo) 0 / 16) (k / length memo) h)
 
@@ -115,7 +104,7 @@ pub fresh-memo : (D : Deck) (S : Structure) (memo : List ℕ) → 0 < length mem
 unfolding word_for
 fresh-memo D S memo h z = record {
   room = h;
-  right = λ c e l q p. let k : ℕ = key_of S.size c e in absurd (omega (arith, p, z (k % length memo)));
+  right = λ c e j l q p. let k : ℕ = key_of S.size c e in clash (cc (rw (z (k % length memo)) at p));
 }
 
 module _ (D : Deck) (S : Structure) {memo : List ℕ} (R : Remembers D S memo) (c e : ℕ) (h : e < S.size) where
@@ -124,21 +113,13 @@ module _ (D : Deck) (S : Structure) {memo : List ℕ} (R : Remembers D S memo) (
 
   pub recalled-right : (r : Option Judgement) → r ≡ recalled memo k → (j : Judgement) → r ≡ Some j → j ≡ judge D S c e
   unfolding recalled
-  recalled-right r p j q = go (eqb (word_for memo k / 16) (k / length memo)) (eqb (word_for memo k % 16) 0) refl refl (sym q ∙ p)
+  recalled-right r p j q = go (eqb (word_for memo k / 16) (k / length memo)) refl (sym q ∙ p)
     where
-      go : (a b : Bool) → eqb (word_for memo k / 16) (k / length memo) ≡ a → eqb (word_for memo k % 16) 0 ≡ b
-          → Some j ≡ cond a (cond b None (Some (judgement_of (word_for memo k % 16)))) None → j ≡ judge D S c e
-      go true true x y z = clash (cc)
-      go true false x y z =
-          let u = eqb-true (word_for memo k / 16) (k / length memo) x in
-          let v = eqb-false (word_for memo k % 16) 0 y in
-          known z ∙ R.right c e h u (⊎_elim (λ l. l) (λ l. absurd (v (omega (arith, l)))) (lt-or-le 0 (word_for memo k % 16)))
-        where
-          known : {i : Judgement} → Some j ≡ Some i → j ≡ i
-          known e = cc
-      go false b x y z = clash (cc)
+      go : (a : Bool) → eqb (word_for memo k / 16) (k / length memo) ≡ a → Some j ≡ cond a (judgement_of (word_for memo k % 16)) None → j ≡ judge D S c e
+      go true x z = R.right c e j h (eqb-true (word_for memo k / 16) (k / length memo) x) (sym z)
+      go false x z = clash (cc)
 
-  module _ (d : ℕ) (fits : d < 16) (right : 0 < d → judgement_of d ≡ judge D S c e) where
+  module _ (d : ℕ) (fits : d < 16) (right : (j : Judgement) → judgement_of d ≡ Some j → j ≡ judge D S c e) where
     abbrev m : ℕ
     m = length memo
 
@@ -159,31 +140,31 @@ module _ (D : Deck) (S : Structure) {memo : List ℕ} (R : Remembers D S memo) (
     put_right : Remembers D S put
     put_right = record {
       room = rw put-size R.room;
-      right = λ a b l q p. by_cases (key_of S.size a b % m) (k % m) (here a b l q p) (else a b l q p);
+      right = λ a b j l q p. by_cases (key_of S.size a b % m) (k % m) (here a b j l q p) (else a b j l q p);
     }
       where
-        here : (a b : ℕ) → b < S.size
+        here : (a b : ℕ) (j : Judgement) → b < S.size
             → word_for put (key_of S.size a b) / 16 ≡ key_of S.size a b / length put
-            → 0 < word_for put (key_of S.size a b) % 16
+            → judgement_of (word_for put (key_of S.size a b) % 16) ≡ Some j
             → key_of S.size a b % m ≡ k % m
-            → judgement_of (word_for put (key_of S.size a b) % 16) ≡ judge D S a b
-        here a b l q p s =
+            → j ≡ judge D S a b
+        here a b j l q p s =
             let x : ℕ = key_of S.size a b in
             let w = word-here x s in
             let whole : (k / m * 16 + d) / 16 ≡ k / m = digits_div (k / m) fits in
             let code : word_for put x % 16 ≡ d = ap (λ (y : ℕ). y % 16) w ∙ digits_mod (k / m) fits in
             let same = same_number m x k (sym (sym whole ∙ ap (λ (y : ℕ). y / 16) (sym w) ∙ q ∙ ap (λ (y : ℕ). x / y) put-size)) s in
-            ap judgement_of code ∙ right (rw code at p) ∙ rw (key-concept S.size a b c e l h same, key-element S.size a b c e l h same)
+            right j (rw code at p) ∙ rw (key-concept S.size a b c e l h same, key-element S.size a b c e l h same)
 
-        else : (a b : ℕ) → b < S.size
+        else : (a b : ℕ) (j : Judgement) → b < S.size
             → word_for put (key_of S.size a b) / 16 ≡ key_of S.size a b / length put
-            → 0 < word_for put (key_of S.size a b) % 16
+            → judgement_of (word_for put (key_of S.size a b) % 16) ≡ Some j
             → (key_of S.size a b % m ≡ k % m → ⊥)
-            → judgement_of (word_for put (key_of S.size a b) % 16) ≡ judge D S a b
-        else a b l q p n =
+            → j ≡ judge D S a b
+        else a b j l q p n =
             let x : ℕ = key_of S.size a b in
             let w = word_else x n in
-            ap (λ (y : ℕ). judgement_of (y % 16)) w ∙ R.right a b l (ap (λ (y : ℕ). y / 16) (sym w) ∙ q ∙ ap (λ (y : ℕ). x / y) put-size) (rw w at p)
+            R.right a b j l (ap (λ (y : ℕ). y / 16) (sym w) ∙ q ∙ ap (λ (y : ℕ). x / y) put-size) (rw w at p)
 
     code-stored : Remembers D S (stored memo k d)
     unfolding stored
@@ -194,4 +175,4 @@ module _ (D : Deck) (S : Structure) {memo : List ℕ} (R : Remembers D S memo) (
         go false = R
 
   pub stored-right : (j : Judgement) → j ≡ judge D S c e → Remembers D S (stored memo k (code_of j))
-  stored-right j q = code-stored (code_of j) (code_fits j) (λ l. code_is j l ∙ q)
+  stored-right j q = code-stored (code_of j) (code_fits j) (λ i p. let same : i ≡ j = cc (p, code_is j) in same ∙ q)

@@ -16,12 +16,14 @@ use native.Mathlib.Omega.{arith}
 use native.Mathlib.Nat.{add-zero}
 use Rattle.deck.specs.Deck.{Deck, Role}
 use Rattle.eval.proofs.Clash.{clash, both_ways}
+use Rattle.eval.specs.declared.judgement.Construct.{Construct}
 use Rattle.eval.specs.declared.judgement.Judgement.{Judgement}
 use Rattle.eval.specs.declared.judgement.Judgement.TheVariants.{False, True, Unresolved}
 use Rattle.eval.specs.declared.standing.Standing.{Standing}
 use Rattle.eval.specs.declared.verdict.Witnesses.{Witnesses}
 use Rattle.eval.specs.declared.verdict.Verdict.{Verdict}
 use Rattle.eval.specs.declared.verdict.Verdict.TheVariants.{Holds, Fails, UnhandledAxiom, UnhandledConcept, GuardedRoleHasEdges}
+use Rattle.std.specs.Prelude.{Option, Some}
 use Rattle.eval.specs.Standing.{fresh, and_next}
 use Rattle.eval.specs.Lists.{range, keep}
 use Rattle.eval.specs.Structure.{Structure, elements, has_edge, has_pair, successors_of, successors, Pair, pair, pairs_by, pairs_of, pairs}
@@ -154,8 +156,8 @@ module _ (D : Deck) (S : Structure) where
         let mem : (p : Pair) → Member p t.before → Member p (pairs_of D S r) = λ p m. rw t.parts (append_left (pair x y ∷ t.behind) m) in
         ap (scan f w fresh) t.parts ∙ scan-first f w fresh t.before (pair x y) t.behind (λ p m. h p.from p.to (in-word-pairs D S r p (mem p m)) (t.lower p m)) n
 
-    pub pairs-opens : (tag : ℕ) → ((x y t : ℕ) → PairAt D S r x y → f (pair x y) ≡ Unresolved t → t ≡ tag) → ((x y : ℕ) → PairAt D S r x y → f (pair x y) ≡ False → ⊥)
-        → (x y t : ℕ) → PairAt D S r x y → f (pair x y) ≡ Unresolved t → at_pairs D S r f w ≡ UnhandledConcept t
+    pub pairs-opens : (tag : Option Construct) → ((x y : ℕ) (t : Construct) → PairAt D S r x y → f (pair x y) ≡ Unresolved t → Some t ≡ tag) → ((x y : ℕ) → PairAt D S r x y → f (pair x y) ≡ False → ⊥)
+        → (x y : ℕ) (t : Construct) → PairAt D S r x y → f (pair x y) ≡ Unresolved t → at_pairs D S r f w ≡ UnhandledConcept t
     pairs-opens tag steady none x y t e n =
         pairs-case D S (λ v. v ≡ UnhandledConcept t) r f w (λ p q k i. absurd (none p q k i)) (λ p q u k i. cc (steady p q u k i, steady x y t e n)) (λ h. clash (cc (h x y e)))
 

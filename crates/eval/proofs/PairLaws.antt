@@ -20,6 +20,7 @@ use Rattle.eval.specs.declared.edges.Edge.{Edge}
 use Rattle.eval.specs.declared.shape.Shape.{Shape}
 use Rattle.eval.specs.declared.demand.Demand.{Demand}
 use Rattle.eval.specs.declared.demand.Demand.TheVariants.{Domain, Range, Within}
+use Rattle.eval.specs.declared.judgement.Construct.{Construct}
 use Rattle.eval.specs.declared.judgement.Judgement.{Judgement}
 use Rattle.eval.specs.declared.judgement.Judgement.TheVariants.{False, True, Unresolved}
 use Rattle.eval.specs.declared.lowest.Lowest.{Lowest}
@@ -91,7 +92,7 @@ module _ (s labels : List ℕ) (rows : List (List ℕ)) (shape : Shape) (F : Fit
         let t = m.least k.0 k.1 (rw (k.2, k.3) n) in
         both_ways (before-below p q d.from.0 d.to.0 b) (rw (k.2, k.3) at t)))
 
-    pairs-open : (tag : ℕ) → ((x y t : ℕ) → g (pair x y) ≡ Unresolved t → t ≡ tag) → l.failing ≡ None → (t : ℕ) → l.noted ≡ Some t → UnhandledConcept t ≡ at_pairs D S r g w
+    pairs-open : (tag : Option Construct) → ((x y : ℕ) (t : Construct) → g (pair x y) ≡ Unresolved t → Some t ≡ tag) → l.failing ≡ None → (t : Construct) → l.noted ≡ Some t → UnhandledConcept t ≡ at_pairs D S r g w
     pairs-open tag steady h t k =
         let o = Z.opens t k in
         sym
@@ -106,10 +107,10 @@ module _ (s labels : List ℕ) (rows : List (List ℕ)) (shape : Shape) (F : Fit
         by x y e True q = q
         by x y e (Unresolved t) q = absurd (never (Unresolved t) (λ d m u. Z.closed k d t m u) x y e q)
 
-    pub pairs-pass : (tag : ℕ) → ((x y t : ℕ) → g (pair x y) ≡ Unresolved t → t ≡ tag) → l.failing ≡ None → open_or_holds l.noted ≡ at_pairs D S r g w
+    pub pairs-pass : (tag : Option Construct) → ((x y : ℕ) (t : Construct) → g (pair x y) ≡ Unresolved t → Some t ≡ tag) → l.failing ≡ None → open_or_holds l.noted ≡ at_pairs D S r g w
     pairs-pass tag steady h = go l.noted refl
       where
-        go : (n : Option ℕ) → l.noted ≡ n → open_or_holds n ≡ at_pairs D S r g w
+        go : (n : Option Construct) → l.noted ≡ n → open_or_holds n ≡ at_pairs D S r g w
         go (Some t) k = pairs-open tag steady h t k
         go None k = pairs-hold h k
 
@@ -183,13 +184,13 @@ module _ (s labels : List ℕ) (rows : List (List ℕ)) (shape : Shape) (F : Fit
         sym
         (guarded-none D S r (λ x y e. let t = has_listed s labels rows shape F r x y e.has in both_ways t.by (none-at (under D r) es t.edge h t.«in»)))
 
--- the tag with which a demand is left open
-abbrev pub demand_tag : Deck → Demand → ℕ
+-- the construct with which a demand is left open, if one is
+abbrev pub demand_tag : Deck → Demand → Option Construct
 demand_tag D (Domain c) = open_tag D c.0
 demand_tag D (Range c) = open_tag D c.0
-demand_tag D (Within r) = 0
+demand_tag D (Within r) = None
 
-pub steady : (D : Deck) → Sound D → (S : Structure) (d : Demand) (x y t : ℕ) → demand_at D S d (pair x y) ≡ Unresolved t → t ≡ demand_tag D d
+pub steady : (D : Deck) → Sound D → (S : Structure) (d : Demand) (x y : ℕ) (t : Construct) → demand_at D S d (pair x y) ≡ Unresolved t → Some t ≡ demand_tag D d
 steady D W S (Domain c) x y t h = open-tag D W S c.0 x t h
 steady D W S (Range c) x y t h = open-tag D W S c.0 y t h
 steady D W S (Within r) x y t h = absurd (edge-laws.truth-open (has_pair D S (role_of r.0) x y) t h)

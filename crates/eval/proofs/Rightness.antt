@@ -11,6 +11,7 @@ use borrow.Author.Tests.{not-true}
 use Rattle.eval.proofs.Clash.{clash, both_true}
 use Rattle.deck.specs.Deck.{Deck, Concept, concept_at}
 use Rattle.deck.specs.Sound.{Sound, ConceptFits, counts_in}
+use Rattle.eval.specs.declared.judgement.Construct.TheVariants.{InverseSome}
 use Rattle.eval.specs.declared.judgement.Judgement.{Judgement}
 use Rattle.eval.specs.declared.judgement.Judgement.TheVariants.{False, True, Unresolved}
 use Rattle.eval.specs.Standing.{fresh}
@@ -47,7 +48,7 @@ module _ (D : Deck) (W : Sound D) (S : Structure) where
     right_of c (Concept.Or l) h ih e = tt
     right_of c (Concept.Some r b) h ih e = go (inverse r)
       where
-        go : (n : Bool) → Right (cond n (Unresolved 8) (some_from (judge D S b) fresh (successors_of D S r e))) (cond n (χ.sets c e) (any (map (λ t. has_pair D S r e t && ext D S χ b t) (elements S))))
+        go : (n : Bool) → Right (cond n (Unresolved InverseSome) (some_from (judge D S b) fresh (successors_of D S r e))) (cond n (χ.sets c e) (any (map (λ t. has_pair D S r e t && ext D S χ b t) (elements S))))
         go true = tt
         go false = rw (← any-keep (has_pair D S r e) (ext D S χ b) (elements S)) (some-is-right (judge D S b) (ext D S χ b) (successors_of D S r e) (λ t m. ih b h.1 t))
     right_of c (Concept.All r b) h ih e = tt

@@ -9,6 +9,7 @@ use Rattle.deck.specs.Numbers.{inverse_word, role_number}
 use Rattle.deck.specs.Deck.{Deck, Role, role_of, role_id}
 use Rattle.deck.proofs.TagLaws.{role-id}
 use Rattle.eval.specs.declared.verdict.Verdict.{Verdict}
+use Rattle.eval.specs.declared.verdict.Unhandled.TheVariants.{Inverse, ChainLength}
 use Rattle.eval.specs.declared.verdict.Verdict.TheVariants.{Holds, Fails, UnhandledAxiom, UnhandledConcept, GuardedRoleHasEdges}
 use Rattle.eval.specs.Lists.{any}
 use Rattle.eval.specs.Structure.{Structure, inverse}
@@ -23,7 +24,7 @@ inverse-word w = go (inverse_word w)
     go false = refl
 
 module _ (tag w : ℕ) (rs : List Role) (v : Verdict) where
-  pub inverse-first : inverse_word w ≡ true → UnhandledAxiom tag 1 ≡ unless_inverse tag (role_of w ∷ rs) v
+  pub inverse-first : inverse_word w ≡ true → UnhandledAxiom tag Inverse ≡ unless_inverse tag (role_of w ∷ rs) v
   unfolding any
   inverse-first h = rw (inverse-word w, h)
 
@@ -67,7 +68,7 @@ chain-two D S (a ∷ []) sup h = absurd (omega arith)
 chain-two D S (a ∷ b ∷ []) sup h = refl
 chain-two D S (a ∷ b ∷ c ∷ l) sup h = absurd (omega arith)
 
-pub chain-other : (D : Deck) (S : Structure) (l : List ℕ) (sup : Role) → (length l ≡ 2 → ⊥) → UnhandledAxiom 5 2 ≡ chain D S (map role_of l) sup
+pub chain-other : (D : Deck) (S : Structure) (l : List ℕ) (sup : Role) → (length l ≡ 2 → ⊥) → UnhandledAxiom 5 ChainLength ≡ chain D S (map role_of l) sup
 chain-other D S [] sup h = refl
 chain-other D S (a ∷ []) sup h = refl
 chain-other D S (a ∷ b ∷ []) sup h = absurd (h refl)
@@ -83,7 +84,7 @@ module _ (tag w : ℕ) where
     abbrev one : Verdict
     one = f (role_id (role_of w))
 
-    pub inverse-one : inverse_word w ≡ true → UnhandledAxiom tag 1 ≡ unless_inverse tag (role_of w ∷ []) one
+    pub inverse-one : inverse_word w ≡ true → UnhandledAxiom tag Inverse ≡ unless_inverse tag (role_of w ∷ []) one
     inverse-one h = inverse-first tag w [] one h
 
     pub named-one : inverse_word w ≡ false → f (w / 2) ≡ unless_inverse tag (role_of w ∷ []) one
@@ -93,14 +94,14 @@ module _ (tag w v : ℕ) (f : ℕ → ℕ → Verdict) where
   abbrev two : Verdict
   two = f (role_id (role_of w)) (role_id (role_of v))
 
-  pub inverse-two : inverse_word w ≡ true → UnhandledAxiom tag 1 ≡ unless_inverse tag (role_of w ∷ role_of v ∷ []) two
+  pub inverse-two : inverse_word w ≡ true → UnhandledAxiom tag Inverse ≡ unless_inverse tag (role_of w ∷ role_of v ∷ []) two
   inverse-two h = inverse-first tag w (role_of v ∷ []) two h
 
   module _ (h : inverse_word w ≡ false) where
     then_one : unless_inverse tag (role_of v ∷ []) two ≡ unless_inverse tag (role_of w ∷ role_of v ∷ []) two
     then_one = sym (named-first tag w (role_of v ∷ []) two h)
 
-    pub inverse-two-2 : inverse_word v ≡ true → UnhandledAxiom tag 1 ≡ unless_inverse tag (role_of w ∷ role_of v ∷ []) two
+    pub inverse-two-2 : inverse_word v ≡ true → UnhandledAxiom tag Inverse ≡ unless_inverse tag (role_of w ∷ role_of v ∷ []) two
     inverse-two-2 k = inverse-one tag v (f (role_id (role_of w))) k ∙ then_one
 
     pub named-two : inverse_word v ≡ false → f (w / 2) (v / 2) ≡ unless_inverse tag (role_of w ∷ role_of v ∷ []) two
@@ -110,17 +111,17 @@ module _ (tag w v u : ℕ) (f : ℕ → ℕ → ℕ → Verdict) where
   abbrev three : Verdict
   three = f (role_id (role_of w)) (role_id (role_of v)) (role_id (role_of u))
 
-  pub inverse-three : inverse_word w ≡ true → UnhandledAxiom tag 1 ≡ unless_inverse tag (role_of w ∷ role_of v ∷ role_of u ∷ []) three
+  pub inverse-three : inverse_word w ≡ true → UnhandledAxiom tag Inverse ≡ unless_inverse tag (role_of w ∷ role_of v ∷ role_of u ∷ []) three
   inverse-three h = inverse-first tag w (role_of v ∷ role_of u ∷ []) three h
 
   module _ (h : inverse_word w ≡ false) where
     then-two : unless_inverse tag (role_of v ∷ role_of u ∷ []) three ≡ unless_inverse tag (role_of w ∷ role_of v ∷ role_of u ∷ []) three
     then-two = sym (named-first tag w (role_of v ∷ role_of u ∷ []) three h)
 
-    pub inverse-three-2 : inverse_word v ≡ true → UnhandledAxiom tag 1 ≡ unless_inverse tag (role_of w ∷ role_of v ∷ role_of u ∷ []) three
+    pub inverse-three-2 : inverse_word v ≡ true → UnhandledAxiom tag Inverse ≡ unless_inverse tag (role_of w ∷ role_of v ∷ role_of u ∷ []) three
     inverse-three-2 k = inverse-two tag v u (f (role_id (role_of w))) k ∙ then-two
 
-    pub inverse-three-3 : inverse_word v ≡ false → inverse_word u ≡ true → UnhandledAxiom tag 1 ≡ unless_inverse tag (role_of w ∷ role_of v ∷ role_of u ∷ []) three
+    pub inverse-three-3 : inverse_word v ≡ false → inverse_word u ≡ true → UnhandledAxiom tag Inverse ≡ unless_inverse tag (role_of w ∷ role_of v ∷ role_of u ∷ []) three
     inverse-three-3 k m = inverse-two-2 tag v u (f (role_id (role_of w))) k m ∙ then-two
 
     pub named-three : inverse_word v ≡ false → inverse_word u ≡ false → f (w / 2) (v / 2) (u / 2) ≡ unless_inverse tag (role_of w ∷ role_of v ∷ role_of u ∷ []) three

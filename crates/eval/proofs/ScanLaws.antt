@@ -1,7 +1,6 @@
 -- Laws of `scan` and `in_turn`: what a verdict is, by the places.
 --     scan-case     a place that fails, else an undecided one, else all hold
 --     turn-case     a check that does not hold, else all hold
-use Prim.Native.Nat.{ℕ}
 use mathlib.Core.Path.{◌≡◌, refl, ap, ◌∙◌}
 use mathlib.Core.Logic.{⊎_elim}
 use mathlib.Core.List.Memᴰ.{cases_cons}
@@ -10,6 +9,7 @@ use mathlib.Core.List.Memᴰ.{not-nil as nothing-in}
 use mathlib.Core.List.Memᴰ.{tail as there}
 use mathlib.Core.List.{List, [], ◌∷◌, map, Memᴰ as Member}
 use Rattle.eval.proofs.Clash.{clash}
+use Rattle.eval.specs.declared.judgement.Construct.{Construct}
 use Rattle.eval.specs.declared.judgement.Judgement.{Judgement}
 use Rattle.eval.specs.declared.judgement.Judgement.TheVariants.{False, True, Unresolved}
 use Rattle.eval.specs.declared.standing.Standing.{Standing}
@@ -23,22 +23,22 @@ use Rattle.eval.specs.Verdict.{open_or_holds, scan, fails_at, in_turn, or_else}
 module _ {A : Type 0} (f : A → Judgement) (w : A → Witnesses) (C : Verdict → Type 0) where
   case-from : (xs : List A) (s : Standing)
       → ((x : A) → Member x xs → f x ≡ False → C (Fails (w x)))
-      → ((t : ℕ) → s.noted ≡ Some t → C (UnhandledConcept t))
-      → ((x : A) (t : ℕ) → Member x xs → f x ≡ Unresolved t → C (UnhandledConcept t))
+      → ((t : Construct) → s.noted ≡ Some t → C (UnhandledConcept t))
+      → ((x : A) (t : Construct) → Member x xs → f x ≡ Unresolved t → C (UnhandledConcept t))
       → (s.noted ≡ None → ((x : A) → Member x xs → f x ≡ True) → C Holds)
       → C (scan f w s xs)
   unfolding scan
   case-from [] s fails was opens holds = go s.noted refl
     where
-      go : (n : Option ℕ) → s.noted ≡ n → C (open_or_holds n)
+      go : (n : Option Construct) → s.noted ≡ n → C (open_or_holds n)
       go (Some t) q = was t q
       go None q = holds q (λ x m. absurd (nothing-in m))
   case-from (x ∷ xs) s fails was opens holds = go (f x) refl (case-from xs)
     where
       go : (j : Judgement) → f x ≡ j
           → ((s : Standing) → ((x : A) → Member x xs → f x ≡ False → C (Fails (w x)))
-          → ((t : ℕ) → s.noted ≡ Some t → C (UnhandledConcept t))
-          → ((x : A) (t : ℕ) → Member x xs → f x ≡ Unresolved t → C (UnhandledConcept t))
+          → ((t : Construct) → s.noted ≡ Some t → C (UnhandledConcept t))
+          → ((x : A) (t : Construct) → Member x xs → f x ≡ Unresolved t → C (UnhandledConcept t))
           → (s.noted ≡ None → ((x : A) → Member x xs → f x ≡ True) → C Holds)
           → C (scan f w s xs))
           → C (fails_at j (w x) (scan f w (and_next s j) xs))
@@ -51,7 +51,7 @@ module _ {A : Type 0} (f : A → Judgement) (w : A → Witnesses) (C : Verdict �
 
   pub scan-case : (xs : List A)
       → ((x : A) → Member x xs → f x ≡ False → C (Fails (w x)))
-      → ((x : A) (t : ℕ) → Member x xs → f x ≡ Unresolved t → C (UnhandledConcept t))
+      → ((x : A) (t : Construct) → Member x xs → f x ≡ Unresolved t → C (UnhandledConcept t))
       → (((x : A) → Member x xs → f x ≡ True) → C Holds)
       → C (scan f w fresh xs)
   scan-case xs fails opens holds = case-from xs fresh fails (λ t n. clash (cc)) opens (λ n h. holds h)

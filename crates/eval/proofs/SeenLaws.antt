@@ -19,6 +19,7 @@ use lib.Seq.{take-suc, take_all}
 use lib.Dec.{eqb, ltb}
 use borrow.Author.Tests.{ltb-true, ltb-false, eqb-true, eqb-false, le-ltb, ne_eqb, eq-eqb}
 use Rattle.eval.specs.declared.edges.Edge.{Edge}
+use Rattle.eval.specs.declared.judgement.Construct.{Construct}
 use Rattle.eval.specs.declared.judgement.Judgement.{Judgement}
 use Rattle.eval.specs.declared.judgement.Judgement.TheVariants.{False, True, Unresolved}
 use Rattle.eval.specs.declared.lowest.Lowest.{Lowest}
@@ -54,10 +55,10 @@ before_self a b = rw (le-ltb a a (omega arith), le-ltb b b (omega arith), eq-eqb
 
 -- ---- one more edge
 module _ (P Q : Edge → Type 0) (f : Edge → Judgement) (e : Edge) (keep : (x : Edge) → P x → Q x) (add : Q e) (split : (x : Edge) → Q x → P x ⊎ (x ≡ e)) (l : Lowest) (S : Seen P f l) where
-  open_kept : (t : ℕ) → l.noted ≡ Some t → LeftOpen Q f t
+  open_kept : (t : Construct) → l.noted ≡ Some t → LeftOpen Q f t
   open_kept t h = let o = S.opens t h in record { edge = o.edge; met = keep o.edge o.met; unresolved = o.unresolved }
 
-  closed-kept : {j : Judgement} → f e ≡ j → ((t : ℕ) → j ≡ Unresolved t → ⊥) → l.noted ≡ None → (x : Edge) (t : ℕ) → Q x → f x ≡ Unresolved t → ⊥
+  closed-kept : {j : Judgement} → f e ≡ j → ((t : Construct) → j ≡ Unresolved t → ⊥) → l.noted ≡ None → (x : Edge) (t : Construct) → Q x → f x ≡ Unresolved t → ⊥
   closed-kept p n h x t q u = ⊎_elim (λ m. S.closed h x t m u) (λ (i : x ≡ e). n t (sym p ∙ (rw i at u))) (split x q)
 
   sound-kept : {j : Judgement} → f e ≡ j → (j ≡ False → ⊥) → l.failing ≡ None → (x : Edge) → Q x → f x ≡ False → ⊥
@@ -80,7 +81,7 @@ module _ (P Q : Edge → Type 0) (f : Edge → Judgement) (e : Edge) (keep : (x 
     closed = closed-kept p (λ t i. clash (cc));
   }
 
-  seen-open : (t : ℕ) → f e ≡ Unresolved t → Seen Q f (lowest_next l (Unresolved t) e)
+  seen-open : (t : Construct) → f e ≡ Unresolved t → Seen Q f (lowest_next l (Unresolved t) e)
   seen-open t p = record {
     fails = least_kept p (λ i. clash (cc));
     sound = sound-kept p (λ i. clash (cc));

@@ -13,6 +13,7 @@ use mathlib.Core.List.Memᴰ.{not-nil as nothing-in}
 use mathlib.Core.List.Memᴰ.{tail as there}
 use mathlib.Core.List.{List, [], ◌∷◌, ◌++◌, Memᴰ as Member}
 use Rattle.eval.proofs.Clash.{clash}
+use Rattle.eval.specs.declared.judgement.Construct.{Construct}
 use Rattle.eval.specs.declared.judgement.Judgement.{Judgement}
 use Rattle.eval.specs.declared.judgement.Judgement.TheVariants.{False, True, Unresolved}
 use Rattle.eval.specs.declared.standing.Standing.{Standing}
@@ -37,15 +38,15 @@ module _ (f : ℕ → Judgement) where
 
   case-from : (C : Judgement → Type 0) (xs : List ℕ) (s : Standing)
       → (s.ended ≡ true → C True)
-      → (s.ended ≡ false → (t : ℕ) → s.noted ≡ Some t → NoneTrue xs → C (Unresolved t))
+      → (s.ended ≡ false → (t : Construct) → s.noted ≡ Some t → NoneTrue xs → C (Unresolved t))
       → ((x : ℕ) → Member x xs → f x ≡ True → C True)
-      → ((x t : ℕ) → Member x xs → f x ≡ Unresolved t → NoneTrue xs → C (Unresolved t))
+      → ((x : ℕ) (t : Construct) → Member x xs → f x ≡ Unresolved t → NoneTrue xs → C (Unresolved t))
       → (s.noted ≡ None → AllFalse xs → C False)
       → C (some_from f s xs)
   unfolding some_from
   case-from C [] s over was hit opens none = go s.ended s.noted refl refl
     where
-      go : (b : Bool) (n : Option ℕ) → s.ended ≡ b → s.noted ≡ n → C (cond b True (unless_noted n False))
+      go : (b : Bool) (n : Option Construct) → s.ended ≡ b → s.noted ≡ n → C (cond b True (unless_noted n False))
       go true n p q = over p
       go false (Some t) p q = was p t q (λ x m. absurd (nothing-in m))
       go false None p q = none q (λ x m. absurd (nothing-in m))
@@ -53,9 +54,9 @@ module _ (f : ℕ → Judgement) where
     where
       go : (j : Judgement) → f x ≡ j
           → ((s : Standing) → (s.ended ≡ true → C True)
-          → (s.ended ≡ false → (t : ℕ) → s.noted ≡ Some t → NoneTrue xs → C (Unresolved t))
+          → (s.ended ≡ false → (t : Construct) → s.noted ≡ Some t → NoneTrue xs → C (Unresolved t))
           → ((x : ℕ) → Member x xs → f x ≡ True → C True)
-          → ((x t : ℕ) → Member x xs → f x ≡ Unresolved t → NoneTrue xs → C (Unresolved t))
+          → ((x : ℕ) (t : Construct) → Member x xs → f x ≡ Unresolved t → NoneTrue xs → C (Unresolved t))
           → (s.noted ≡ None → AllFalse xs → C False)
           → C (some_from f s xs))
           → C (some_from f (some_next s j) xs)
@@ -70,7 +71,7 @@ module _ (f : ℕ → Judgement) where
 
   pub some-case : (C : Judgement → Type 0) (xs : List ℕ)
       → ((x : ℕ) → Member x xs → f x ≡ True → C True)
-      → ((x t : ℕ) → Member x xs → f x ≡ Unresolved t → NoneTrue xs → C (Unresolved t))
+      → ((x : ℕ) (t : Construct) → Member x xs → f x ≡ Unresolved t → NoneTrue xs → C (Unresolved t))
       → (AllFalse xs → C False)
       → C (some_from f fresh xs)
   some-case C xs hit opens none =
@@ -85,8 +86,8 @@ module _ (f : ℕ → Judgement) where
       some-case (λ j. j ≡ False) xs (λ y n q. clash (cc (h y n))) (λ y t n q a. clash (cc (h y n))) (λ a. refl)
 
   -- all unresolved judgements have one tag
-  module _ (tag : ℕ) (steady : (x t : ℕ) → f x ≡ Unresolved t → t ≡ tag) where
-    pub some-open : (xs : List ℕ) (x t : ℕ) → Member x xs → f x ≡ Unresolved t → NoneTrue xs → some_from f fresh xs ≡ Unresolved t
+  module _ (tag : Option Construct) (steady : (x : ℕ) (t : Construct) → f x ≡ Unresolved t → Some t ≡ tag) where
+    pub some-open : (xs : List ℕ) (x : ℕ) (t : Construct) → Member x xs → f x ≡ Unresolved t → NoneTrue xs → some_from f fresh xs ≡ Unresolved t
     some-open xs x t m e h =
         some-case (λ j. j ≡ Unresolved t) xs (λ y n q. absurd (h y n q)) (λ y u n q a. cc (steady y u q, steady x t e)) (λ a. clash (cc (a x m)))
 

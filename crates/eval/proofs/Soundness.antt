@@ -18,6 +18,7 @@ use Rattle.deck.specs.Sound.{Sound}
 use Rattle.eval.specs.declared.judgement.Judgement.{Judgement}
 use Rattle.eval.specs.declared.judgement.Judgement.TheVariants.{False, True, Unresolved}
 use Rattle.eval.specs.declared.verdict.Witnesses.{Witnesses}
+use Rattle.eval.specs.declared.verdict.Unhandled.TheVariants.{Inverse}
 use Rattle.eval.specs.declared.verdict.Verdict.TheVariants.{Holds, Fails, UnhandledAxiom}
 use Rattle.eval.specs.Lists.{any}
 use Rattle.eval.specs.Structure.{Structure, elements, has_edge, has_pair, inverse, any_inverse}
@@ -126,7 +127,7 @@ module _ (D : Deck) (W : Sound D) (S : Structure) (χ : Choice) where
   unfolding verdict
   equivalent-roles l = go (any_inverse l) refl
     where
-      go : (t : Bool) → any_inverse l ≡ t → Claims D S χ (Axiom.EquivalentObjectProperties l) (cond t (UnhandledAxiom 6 1) (equivalent D S l))
+      go : (t : Bool) → any_inverse l ≡ t → Claims D S χ (Axiom.EquivalentObjectProperties l) (cond t (UnhandledAxiom 6 Inverse) (equivalent D S l))
       go true q = tt
       go false q =
           equivalent-case D S (Claims D S χ (Axiom.EquivalentObjectProperties l)) l

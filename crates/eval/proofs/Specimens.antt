@@ -11,6 +11,7 @@ use lib.ListN.{length, get_or}
 use Rattle.deck.specs.Forms.{Counts}
 use Rattle.deck.specs.Deck.{Deck, Role, Concept, Axiom, has, axiom_at}
 use Rattle.deck.specs.Sound.{Sound, Each, EachBelow, Rises, ClassFits, RoleFits, FactFits, ConceptFits, AxiomFits}
+use Rattle.eval.specs.declared.judgement.Construct.TheVariants as construct
 use Rattle.eval.specs.declared.judgement.Judgement.{Judgement}
 use Rattle.eval.specs.declared.judgement.Judgement.TheVariants.{False, True, Unresolved}
 use Rattle.eval.specs.declared.verdict.Verdict.{Verdict}
@@ -134,7 +135,7 @@ abbrev Not : Concept
 Not = Concept.Not 0
 
 -- "3 And(Atomic 1, Not): false at 0, unresolved 5 at 1."
-pub specimen-3 : Specimen (Not ∷ Concept.And (1 ∷ 3 ∷ []) ∷ []) [] (concept 4) (judged (False ∷ Unresolved 5 ∷ []))
+pub specimen-3 : Specimen (Not ∷ Concept.And (1 ∷ 3 ∷ []) ∷ []) [] (concept 4) (judged (False ∷ Unresolved construct.Not ∷ []))
 unfolding asked judge numbered below judge_of and_from range has
 specimen-3 = record { sound = sound-W (Not ∷ Concept.And (1 ∷ 3 ∷ []) ∷ []) [] (omega arith, (below_all 4 (1 ∷ 3 ∷ []) (omega arith), tt)) tt; answer = refl }
 
@@ -143,7 +144,7 @@ pub specimen-4 : Specimen (Not ∷ []) (Axiom.EquivalentClasses (3 ∷ []) ∷ [
 unfolding asked verdict scan all_agree votes judge numbered below judge_of range
 specimen-4 = record { sound = sound-W (Not ∷ []) (Axiom.EquivalentClasses (3 ∷ []) ∷ []) (omega arith, tt) (below_all 4 (3 ∷ []) (omega arith), tt); answer = refl }
 
-pub specimen-5 : Specimen (Not ∷ []) (Axiom.EquivalentClasses (3 ∷ 3 ∷ []) ∷ []) (axiom-no 2) (checked (UnhandledConcept 5))
+pub specimen-5 : Specimen (Not ∷ []) (Axiom.EquivalentClasses (3 ∷ 3 ∷ []) ∷ []) (axiom-no 2) (checked (UnhandledConcept construct.Not))
 unfolding asked verdict scan all_agree votes judge numbered below judge_of range
 specimen-5 = record { sound = sound-W (Not ∷ []) (Axiom.EquivalentClasses (3 ∷ 3 ∷ []) ∷ []) (omega arith, tt) (below_all 4 (3 ∷ 3 ∷ []) (omega arith), tt); answer = refl }
 
@@ -156,7 +157,7 @@ pub specimen-7 : Specimen [] (Axiom.DisjointClasses (1 ∷ []) ∷ []) (axiom-no
 unfolding asked verdict scan at_most_one votes judge numbered below judge_of range has
 specimen-7 = record { sound = sound-W [] (Axiom.DisjointClasses (1 ∷ []) ∷ []) tt (below_all 3 (1 ∷ []) (omega arith), tt); answer = refl }
 
-pub specimen-8 : Specimen (Not ∷ []) (Axiom.DisjointClasses (3 ∷ 1 ∷ []) ∷ []) (axiom-no 2) (checked (UnhandledConcept 5))
+pub specimen-8 : Specimen (Not ∷ []) (Axiom.DisjointClasses (3 ∷ 1 ∷ []) ∷ []) (axiom-no 2) (checked (UnhandledConcept construct.Not))
 unfolding asked verdict scan at_most_one votes judge numbered below judge_of range has
 specimen-8 = record { sound = sound-W (Not ∷ []) (Axiom.DisjointClasses (3 ∷ 1 ∷ []) ∷ []) (omega arith, tt) (below_all 4 (3 ∷ 1 ∷ []) (omega arith), tt); answer = refl }
 

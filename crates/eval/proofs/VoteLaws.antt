@@ -6,19 +6,23 @@ use Prim.Native.Nat.{ℕ, zero, suc, ◌+◌, ◌<◌, ◌≤◌}
 use mathlib.Core.Bool.{Bool, true, false, cond, ◌&&◌, ◌||◌, or-true}
 use mathlib.Core.Path.{◌≡◌, refl, sym, ◌∙◌}
 use mathlib.Core.Logic.{◌⊎◌, ◌≢◌}
+use mathlib.Core.List.Memᴰ.{head as here}
+use mathlib.Core.List.Memᴰ.{tail as there}
 use mathlib.Core.List.{List, [], ◌∷◌, map, Memᴰ as Member}
 use native.Mathlib.Omega.{arith}
 use Rattle.eval.proofs.Clash.{clash, both_true, not-both}
 use lib.Dec.{ltb, leb}
 use lib.ListN.{length, get_or}
 use borrow.Author.Tests.{ltb-true, ltb-false, leb-true, lt-ltb, le-leb}
+use Rattle.eval.specs.declared.judgement.Construct.{Construct}
 use Rattle.eval.specs.declared.judgement.Judgement.{Judgement}
 use Rattle.eval.specs.declared.judgement.Judgement.TheVariants.{False, True, Unresolved}
+use Rattle.std.specs.Prelude.{Option, Some, None}
 use Rattle.eval.specs.Judge.{decided}
+use Rattle.eval.specs.Standing.{unless_noted}
 use Rattle.eval.specs.declared.votes.Votes.{Votes}
 use Rattle.eval.specs.Verdict.{no_votes, vote, votes, all_agree, at_most_one}
 use Rattle.eval.specs.Truth.{Apart}
-use Rattle.eval.proofs.ListLaws.{member-at}
 
 -- ---- how many of a list pass a test
 unfoldable pub count : {A : Type 0} → (A → Bool) → List A → ℕ
@@ -103,11 +107,6 @@ is_false_lem False e = refl
 is_false_lem True e = clash (cc)
 is_false_lem (Unresolved t) e = clash (cc)
 
-is_open_lem : (j : Judgement) → is_open j ≡ true → decided j ≡ true → ⊥
-is_open_lem False e d = clash (cc)
-is_open_lem True e d = clash (cc)
-is_open_lem (Unresolved t) e d = clash (cc)
-
 module _ (f : ℕ → Judgement) where
   trues-are : (v : Votes) (l : List ℕ) → (votes v (map f l)).trues ≡ v.trues + count (λ c. is_true (f c)) l
   unfolding votes count
@@ -139,21 +138,50 @@ module _ (f : ℕ → Judgement) where
       go True = refl
       go (Unresolved t) = omega arith
 
+  -- a construct is noted just where a member is unresolved
+  none-noted : (v : Votes) (l : List ℕ) → v.noted ≡ None → ((c : ℕ) → Member c l → decided (f c) ≡ true) → (votes v (map f l)).noted ≡ None
+  unfolding votes
+  none-noted v [] n h = n
+  none-noted v (x ∷ xs) n h = none-noted (vote v (f x)) xs (go (f x) (h x (here refl))) (λ c m. h c (there m))
+    where
+      go : (j : Judgement) → decided j ≡ true → (vote v j).noted ≡ None
+      go False d = n
+      go True d = n
+      go (Unresolved t) d = clash (cc)
+
+  noted-stays : (v : Votes) (l : List ℕ) → (v.noted ≡ None → ⊥) → (votes v (map f l)).noted ≡ None → ⊥
+  unfolding votes
+  noted-stays v [] n e = n e
+  noted-stays v (x ∷ xs) n e = noted-stays (vote v (f x)) xs (go (f x)) e
+    where
+      go : (j : Judgement) → (vote v j).noted ≡ None → ⊥
+      go False = n
+      go True = n
+      go (Unresolved t) = λ q. clash (cc)
+
+  open-noted : (v : Votes) (l : List ℕ) (k : ℕ) (t : Construct) → k < length l → f (get_or l k 0) ≡ Unresolved t → (votes v (map f l)).noted ≡ None → ⊥
+  unfolding votes
+  open-noted v [] k t h q e = omega arith
+  open-noted v (x ∷ xs) zero t h q e = noted-stays (vote v (f x)) xs (rw q (λ i. clash (cc))) e
+  open-noted v (x ∷ xs) (suc k) t h q e = open-noted (vote v (f x)) xs k t (omega arith) q e
+
 -- ---- what an outcome says of its two tests
-outcome-false : (x y : Bool) (t : ℕ) → cond x False (cond y (Unresolved t) True) ≡ False → x ≡ true
-outcome-false true y t e = refl
-outcome-false false true t e = clash (cc)
-outcome-false false false t e = clash (cc)
+outcome-false : (x y : Bool) (n : Option Construct) → cond x False (cond y (unless_noted n True) True) ≡ False → x ≡ true
+outcome-false true y n e = refl
+outcome-false false true None e = clash (cc)
+outcome-false false true (Some t) e = clash (cc)
+outcome-false false false n e = clash (cc)
 
-outcome-true : (x y : Bool) (t : ℕ) → cond x False (cond y (Unresolved t) True) ≡ True → (x ≡ false) × (y ≡ false)
-outcome-true true y t e = clash (cc)
-outcome-true false true t e = clash (cc)
-outcome-true false false t e = (refl, refl)
+outcome-true : (x y : Bool) (n : Option Construct) → cond x False (cond y (unless_noted n True) True) ≡ True → (x ≡ false) × (y ≡ true → n ≡ None)
+outcome-true true y n e = clash (cc)
+outcome-true false y None e = (refl, λ h. refl)
+outcome-true false true (Some t) e = clash (cc)
+outcome-true false false (Some t) e = (refl, λ h. clash (cc))
 
-outcome-decided : (x y : Bool) (t : ℕ) → y ≡ false → decided (cond x False (cond y (Unresolved t) True)) ≡ true
-outcome-decided true y t e = refl
-outcome-decided false true t e = clash (cc)
-outcome-decided false false t e = refl
+outcome-decided : (x y : Bool) (n : Option Construct) → n ≡ None → decided (cond x False (cond y (unless_noted n True) True)) ≡ true
+outcome-decided true y n e = refl
+outcome-decided false true n e = rw e
+outcome-decided false false n e = refl
 
 module _ (f : ℕ → Judgement) (l : List ℕ) where
   abbrev cast : Votes
@@ -184,30 +212,21 @@ module _ (f : ℕ → Judgement) (l : List ℕ) where
   abbrev other : Bool
   other = ltb 0 cast.trues || ltb 0 cast.falses || leb 2 cast.unresolved
 
-  abbrev unsure : Bool
-  unsure = ltb 0 cast.unresolved && other
-
   abbrev double : Bool
   double = leb 2 cast.trues
 
   abbrev doubt : Bool
-  doubt = ltb 0 cast.unresolved && leb 2 (cast.trues + cast.unresolved)
+  doubt = leb 2 (cast.trues + cast.unresolved)
 
   -- no unresolved member
-  no-open : ((c : ℕ) → Member c l → decided (f c) ≡ true) → cast.unresolved ≡ 0
-  no-open h = go cast.unresolved refl
-    where
-      go : (n : ℕ) → cast.unresolved ≡ n → n ≡ 0
-      go zero q = refl
-      go (suc n) q =
-          let r = one_at 0 (λ c. is_open (f c)) l (omega (arith, u-is)) in
-          absurd (is_open_lem (f (get_or l r.0 0)) r.2 (h (get_or l r.0 0) (member-at 0 l r.0 r.1)))
+  no-open : ((c : ℕ) → Member c l → decided (f c) ≡ true) → cast.noted ≡ None
+  no-open h = none-noted f no_votes l refl h
 
   -- ---- all agree
   pub agree-false : all_agree (map f l) ≡ False → Apart 0 l (λ c d. (f c ≡ True) × (f d ≡ False))
   unfolding all_agree
   agree-false e =
-      let b = both_true (ltb 0 cast.trues) (ltb 0 cast.falses) (outcome-false split unsure cast.tag e) in
+      let b = both_true (ltb 0 cast.trues) (ltb 0 cast.falses) (outcome-false split other cast.noted e) in
       let t = one_at 0 (λ c. is_true (f c)) l (omega (arith, t-is, ltb-true 0 cast.trues b.0)) in
       let g = one_at 0 (λ c. is_false (f c)) l (omega (arith, f-is, ltb-true 0 cast.falses b.1)) in
       let p : f (get_or l t.0 0) ≡ True = is_true_lem _ t.2 in
@@ -218,8 +237,8 @@ module _ (f : ℕ → Judgement) (l : List ℕ) where
   unfolding all_agree
   agree-true e i j n hi hj = go (f (get_or l i 0)) (f (get_or l j 0)) refl refl
     where
-      o : (split ≡ false) × (unsure ≡ false)
-      o = outcome-true split unsure cast.tag e
+      o : (split ≡ false) × (other ≡ true → cast.noted ≡ None)
+      o = outcome-true split other cast.noted e
 
       true-in : (k : ℕ) → k < length l → f (get_or l k 0) ≡ True → ltb 0 cast.trues ≡ true
       true-in k h q = lt-ltb 0 cast.trues (omega (arith, t-is, count-pos 0 (λ c. is_true (f c)) l k h (rw q refl)))
@@ -227,8 +246,8 @@ module _ (f : ℕ → Judgement) (l : List ℕ) where
       false-in : (k : ℕ) → k < length l → f (get_or l k 0) ≡ False → ltb 0 cast.falses ≡ true
       false-in k h q = lt-ltb 0 cast.falses (omega (arith, f-is, count-pos 0 (λ c. is_false (f c)) l k h (rw q refl)))
 
-      open_in : (k t : ℕ) → k < length l → f (get_or l k 0) ≡ Unresolved t → ltb 0 cast.unresolved ≡ true
-      open_in k t h q = lt-ltb 0 cast.unresolved (omega (arith, u-is, count-pos 0 (λ c. is_open (f c)) l k h (rw q refl)))
+      open_in : (k : ℕ) (t : Construct) → k < length l → f (get_or l k 0) ≡ Unresolved t → other ≡ true → ⊥
+      open_in k t h q y = open-noted f no_votes l k t h q (o.1 y)
 
       t-or : ltb 0 cast.trues ≡ true → other ≡ true
       t-or h = rw h
@@ -244,39 +263,39 @@ module _ (f : ℕ → Judgement) (l : List ℕ) where
       go False False p q = (refl, refl)
       go True False p q = absurd (not-both (ltb 0 cast.trues) (ltb 0 cast.falses) o.0 (true-in i hi p) (false-in j hj q))
       go False True p q = absurd (not-both (ltb 0 cast.trues) (ltb 0 cast.falses) o.0 (true-in j hj q) (false-in i hi p))
-      go True (Unresolved t) p q = absurd (not-both (ltb 0 cast.unresolved) other o.1 (open_in j t hj q) (t-or (true-in i hi p)))
-      go False (Unresolved t) p q = absurd (not-both (ltb 0 cast.unresolved) other o.1 (open_in j t hj q) (f-or (false-in i hi p)))
-      go (Unresolved t) True p q = absurd (not-both (ltb 0 cast.unresolved) other o.1 (open_in i t hi p) (t-or (true-in j hj q)))
-      go (Unresolved t) False p q = absurd (not-both (ltb 0 cast.unresolved) other o.1 (open_in i t hi p) (f-or (false-in j hj q)))
+      go True (Unresolved t) p q = absurd (open_in j t hj q (t-or (true-in i hi p)))
+      go False (Unresolved t) p q = absurd (open_in j t hj q (f-or (false-in i hi p)))
+      go (Unresolved t) True p q = absurd (open_in i t hi p (t-or (true-in j hj q)))
+      go (Unresolved t) False p q = absurd (open_in i t hi p (f-or (false-in j hj q)))
       go (Unresolved t) (Unresolved u) p q =
-          absurd (not-both (ltb 0 cast.unresolved) other o.1 (open_in i t hi p) (u-or (le-leb 2 cast.unresolved (omega (arith, u-is, count-apart 0 (λ c. is_open (f c)) l i j n hi hj (rw p refl) (rw q refl))))))
+          absurd (open_in i t hi p (u-or (le-leb 2 cast.unresolved (omega (arith, u-is, count-apart 0 (λ c. is_open (f c)) l i j n hi hj (rw p refl) (rw q refl))))))
 
   pub agree-decided : ((c : ℕ) → Member c l → decided (f c) ≡ true) → decided (all_agree (map f l)) ≡ true
   unfolding all_agree
-  agree-decided h = outcome-decided split unsure cast.tag (rw (no-open h) refl)
+  agree-decided h = outcome-decided split other cast.noted (no-open h)
 
   -- ---- at most one
   pub one-false : at_most_one (map f l) ≡ False → Apart 0 l (λ c d. (f c ≡ True) × (f d ≡ True))
   unfolding at_most_one
   one-false e =
-      let r = two_at 0 (λ c. is_true (f c)) l (omega (arith, t-is, leb-true 2 cast.trues (outcome-false double doubt cast.tag e))) in
+      let r = two_at 0 (λ c. is_true (f c)) l (omega (arith, t-is, leb-true 2 cast.trues (outcome-false double doubt cast.noted e))) in
       record { i = r.i; j = r.j; i-in = r.i-in; j-in = r.j-in; apart = r.apart; related = (is_true_lem _ r.related.0, is_true_lem _ r.related.1) }
 
   pub one-true : at_most_one (map f l) ≡ True → (i j : ℕ) → i ≢ j → i < length l → j < length l → (f (get_or l i 0) ≡ False) ⊎ (f (get_or l j 0) ≡ False)
   unfolding at_most_one
   one-true e i j n hi hj = go (f (get_or l i 0)) (f (get_or l j 0)) refl refl
     where
-      o : (double ≡ false) × (doubt ≡ false)
-      o = outcome-true double doubt cast.tag e
+      o : (double ≡ false) × (doubt ≡ true → cast.noted ≡ None)
+      o = outcome-true double doubt cast.noted e
 
       true-in : (k : ℕ) → k < length l → f (get_or l k 0) ≡ True → 0 < cast.trues
       true-in k h q = omega (arith, t-is, count-pos 0 (λ c. is_true (f c)) l k h (rw q refl))
 
-      open_in : (k t : ℕ) → k < length l → f (get_or l k 0) ≡ Unresolved t → 0 < cast.unresolved
+      open_in : (k : ℕ) (t : Construct) → k < length l → f (get_or l k 0) ≡ Unresolved t → 0 < cast.unresolved
       open_in k t h q = omega (arith, u-is, count-pos 0 (λ c. is_open (f c)) l k h (rw q refl))
 
-      full : 0 < cast.unresolved → 2 ≤ cast.trues + cast.unresolved → ⊥
-      full p q = not-both (ltb 0 cast.unresolved) (leb 2 (cast.trues + cast.unresolved)) o.1 (lt-ltb 0 cast.unresolved p) (le-leb 2 (cast.trues + cast.unresolved) q)
+      full : (k : ℕ) (t : Construct) → k < length l → f (get_or l k 0) ≡ Unresolved t → 2 ≤ cast.trues + cast.unresolved → ⊥
+      full k t h q two = open-noted f no_votes l k t h q (o.1 (le-leb 2 (cast.trues + cast.unresolved) two))
 
       go : (a b : Judgement) → f (get_or l i 0) ≡ a → f (get_or l j 0) ≡ b → (a ≡ False) ⊎ (b ≡ False)
       go False b p q = ◌⊎◌.inl refl
@@ -284,11 +303,11 @@ module _ (f : ℕ → Judgement) (l : List ℕ) where
       go (Unresolved t) False p q = ◌⊎◌.inr refl
       go True True p q =
           absurd (let y : true ≡ false = sym (le-leb 2 cast.trues (omega (arith, t-is, count-apart 0 (λ c. is_true (f c)) l i j n hi hj (rw p refl) (rw q refl)))) ∙ o.0 in clash (cc))
-      go True (Unresolved t) p q = absurd (let a = true-in i hi p in let b = open_in j t hj q in full b (omega arith))
-      go (Unresolved t) True p q = absurd (let a = true-in j hj q in let b = open_in i t hi p in full b (omega arith))
+      go True (Unresolved t) p q = absurd (let a = true-in i hi p in let b = open_in j t hj q in full j t hj q (omega arith))
+      go (Unresolved t) True p q = absurd (let a = true-in j hj q in let b = open_in i t hi p in full i t hi p (omega arith))
       go (Unresolved t) (Unresolved u) p q =
-          absurd (let a = open_in i t hi p in full a (omega (arith, u-is, count-apart 0 (λ c. is_open (f c)) l i j n hi hj (rw p refl) (rw q refl))))
+          absurd (full i t hi p (omega (arith, u-is, count-apart 0 (λ c. is_open (f c)) l i j n hi hj (rw p refl) (rw q refl))))
 
   pub one-decided : ((c : ℕ) → Member c l → decided (f c) ≡ true) → decided (at_most_one (map f l)) ≡ true
   unfolding at_most_one
-  one-decided h = outcome-decided double doubt cast.tag (rw (no-open h) refl)
+  one-decided h = outcome-decided double doubt cast.noted (no-open h)

@@ -1,6 +1,7 @@
 -- Judging a concept at an element (`eval_concept`): document 01, section 4.
 use Rattle.std.specs.Prelude.{ℕ, Bool, true, false, cond, ◌≡◌, List, [], ◌∷◌}
 use Rattle.deck.specs.Deck.{Deck, Concept, concept_at}
+use Rattle.eval.specs.declared.judgement.Construct.TheVariants as construct
 use Rattle.eval.specs.declared.judgement.Judgement.{Judgement}
 use Rattle.eval.specs.declared.judgement.Judgement.TheVariants.{False, True, Unresolved}
 use Rattle.eval.specs.declared.standing.Standing.{Standing}
@@ -27,15 +28,15 @@ unfoldable pub judge_of : Deck → Structure → Concept → (ℕ → ℕ → Ju
 judge_of D S Concept.Top f e = True
 judge_of D S Concept.Bot f e = False
 judge_of D S (Concept.Atomic k) f e = truth (S.member e k)
-judge_of D S (Concept.Nominal i) f e = Unresolved 3
-judge_of D S (Concept.SelfRestriction r) f e = Unresolved 4
-judge_of D S (Concept.Not b) f e = Unresolved 5
+judge_of D S (Concept.Nominal i) f e = Unresolved construct.Nominal
+judge_of D S (Concept.SelfRestriction r) f e = Unresolved construct.SelfRestriction
+judge_of D S (Concept.Not b) f e = Unresolved construct.Not
 judge_of D S (Concept.And l) f e = and_from (λ o. f o e) fresh l
-judge_of D S (Concept.Or l) f e = Unresolved 7
-judge_of D S (Concept.Some r b) f e = cond (inverse r) (Unresolved 8) (some_from (f b) fresh (successors_of D S r e))
-judge_of D S (Concept.All r b) f e = Unresolved 9
-judge_of D S (Concept.Min m r b) f e = Unresolved 10
-judge_of D S (Concept.Max m r b) f e = Unresolved 11
+judge_of D S (Concept.Or l) f e = Unresolved construct.Or
+judge_of D S (Concept.Some r b) f e = cond (inverse r) (Unresolved construct.InverseSome) (some_from (f b) fresh (successors_of D S r e))
+judge_of D S (Concept.All r b) f e = Unresolved construct.All
+judge_of D S (Concept.Min m r b) f e = Unresolved construct.Min
+judge_of D S (Concept.Max m r b) f e = Unresolved construct.Max
 
 -- concept c at element e
 unfoldable pub judge : Deck → Structure → ℕ → ℕ → Judgement

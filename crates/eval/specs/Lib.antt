@@ -1,6 +1,7 @@
 pub mod Lists
 pub mod Numbered
 pub mod Structure
+pub mod Construct
 pub mod Standing
 pub mod Judge
 pub mod Verdict

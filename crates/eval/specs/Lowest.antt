@@ -2,6 +2,7 @@
 use Rattle.std.specs.Prelude.{ℕ, ◌≡◌, Bool, true, false, cond, Option, Some, None, ◌&&◌, ◌||◌, eqb, ltb}
 use mathlib.Core.List.{List, Memᴰ as Member}
 use Rattle.eval.specs.declared.edges.Edge.{Edge}
+use Rattle.eval.specs.declared.judgement.Construct.{Construct}
 use Rattle.eval.specs.declared.judgement.Judgement.{Judgement}
 use Rattle.eval.specs.declared.judgement.Judgement.TheVariants.{False, True, Unresolved}
 use Rattle.eval.specs.declared.lowest.Lowest.{Lowest}
@@ -38,8 +39,8 @@ pub record Least (P : Edge → Type 0) (f : Edge → Judgement) (d : Edge) : Typ
   pub fails : f d ≡ False
   pub least : (e : Edge) → P e → f e ≡ False → before e.from.0 e.to.0 d.from.0 d.to.0 ≡ false
 
--- an edge that is left open, with the tag
-pub record LeftOpen (P : Edge → Type 0) (f : Edge → Judgement) (t : ℕ) : Type 0 where
+-- an edge that is left open, with the construct
+pub record LeftOpen (P : Edge → Type 0) (f : Edge → Judgement) (t : Construct) : Type 0 where
   pub edge : Edge
   pub met : P edge
   pub unresolved : f edge ≡ Unresolved t
@@ -48,5 +49,5 @@ pub record LeftOpen (P : Edge → Type 0) (f : Edge → Judgement) (t : ℕ) : T
 pub record Seen (P : Edge → Type 0) (f : Edge → Judgement) (l : Lowest) : Type 0 where
   pub fails : (d : Edge) → l.failing ≡ Some d → Least P f d
   pub sound : l.failing ≡ None → (e : Edge) → P e → f e ≡ False → ⊥
-  pub opens : (t : ℕ) → l.noted ≡ Some t → LeftOpen P f t
-  pub closed : l.noted ≡ None → (e : Edge) (t : ℕ) → P e → f e ≡ Unresolved t → ⊥
+  pub opens : (t : Construct) → l.noted ≡ Some t → LeftOpen P f t
+  pub closed : l.noted ≡ None → (e : Edge) (t : Construct) → P e → f e ≡ Unresolved t → ⊥

@@ -1,5 +1,6 @@
 -- How an And and a Some carry their standing from judgement to judgement: document 01, section 4.
-use Rattle.std.specs.Prelude.{ℕ, true, false, cond, Option, Some, None}
+use Rattle.std.specs.Prelude.{true, false, cond, Option, Some, None}
+use Rattle.eval.specs.declared.judgement.Construct.{Construct}
 use Rattle.eval.specs.declared.judgement.Judgement.{Judgement}
 use Rattle.eval.specs.declared.judgement.Judgement.TheVariants.{False, True, Unresolved}
 use Rattle.eval.specs.declared.standing.Standing.{Standing}
@@ -20,7 +21,7 @@ some_next s True = record { ended = true; noted = s.noted }
 some_next s (Unresolved t) = record { ended = s.ended; noted = Some t }
 
 -- the construct that was noted, if any
-abbrev pub unless_noted : Option ℕ → Judgement → Judgement
+abbrev pub unless_noted : Option Construct → Judgement → Judgement
 unless_noted None j = j
 unless_noted (Some t) j = Unresolved t
 

@@ -10,7 +10,7 @@ ghost use Rattle.eval.specs.Verdict.{verdict};
 
 use crate::demand::Demand;
 use crate::lent::Judging;
-use crate::verdict::Verdict;
+use crate::verdict::{Unhandled, Verdict};
 use crate::votes::Relation;
 use deck::axioms::AxiomRecord;
 use deck::numbers::{ConceptId, RoleWord};
@@ -33,7 +33,7 @@ impl Judging<'_> {
             0 => self.check_sub_class_of(memo, ConceptId(x), ConceptId(y)),
             1 => self.check_classes(memo, Relation::Equivalent, members),
             2 => self.check_classes(memo, Relation::Disjoint, members),
-            _ => Verdict::UnhandledAxiom(3, 0),
+            _ => Verdict::UnhandledAxiom(3, Unhandled::Variety),
         }
     }
 
@@ -61,7 +61,7 @@ impl Judging<'_> {
             10 => self.check_ends(memo, 10, role, Demand::Range(ConceptId(y))),
             11 => self.check_transitive(role),
             12 => self.check_symmetric(role),
-            _ => Verdict::UnhandledAxiom(7, 0),
+            _ => Verdict::UnhandledAxiom(7, Unhandled::Variety),
         }
     }
 
@@ -78,10 +78,10 @@ impl Judging<'_> {
         match tag {
             0..=3 => self.check_class_axiom(memo, record),
             4..=12 => self.check_role_axiom(memo, record),
-            13..=17 => Verdict::UnhandledAxiom(tag, 0),
-            18..=22 => Verdict::UnhandledAxiom(tag, 0),
+            13..=17 => Verdict::UnhandledAxiom(tag, Unhandled::Variety),
+            18..=22 => Verdict::UnhandledAxiom(tag, Unhandled::Variety),
             23..=25 => Verdict::Holds,
-            _ => Verdict::UnhandledAxiom(tag, 0),
+            _ => Verdict::UnhandledAxiom(tag, Unhandled::Variety),
         }
     }
 }

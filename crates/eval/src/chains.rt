@@ -8,8 +8,8 @@ ghost use Rattle.eval.specs.Lowest.{Among, Seen};
 ghost use Rattle.eval.specs.Structure.{has_edge};
 ghost use Rattle.eval.specs.Verdict.{is_holds, onward, composed};
 
-use crate::concepts::truth_of;
 use crate::edges::{edge_at, is_sub_role, leaves_by};
+use crate::judgement::Judgement;
 use crate::lent::Judging;
 use crate::lowest::Lowest;
 use crate::verdict::{Verdict, Witnesses, holds};
@@ -28,7 +28,7 @@ impl Judging<'_> {
         for e in self.leaving(y) {
             if leaves_by(&self.lent.deck, e, b, y) {
                 let linked = self.has_edge(sup, x, e.to);
-                lowest = lowest.next(truth_of(linked), e);
+                lowest = lowest.next(Judgement::from(linked), e);
             }
         }
         lowest
@@ -61,7 +61,7 @@ impl Judging<'_> {
             let e = edge_at(self.lent.edges, i);
             if is_sub_role(&self.lent.deck, e, a) {
                 let v = self.check_onward(b, sup, e.from, e.to);
-                lowest = lowest.next(truth_of(holds(v)), e);
+                lowest = lowest.next(Judgement::from(holds(v)), e);
             }
         }
         lowest

@@ -24,7 +24,7 @@ fn implication(ante: Judgement, cons: Judgement) -> Judgement
         Judgement::False => match ante {
             Judgement::False => Judgement::True,
             Judgement::True => Judgement::False,
-            Judgement::Unresolved(tag) => Judgement::Unresolved(tag),
+            Judgement::Unresolved(first) => Judgement::Unresolved(first),
         },
         Judgement::Unresolved(last) => match ante {
             Judgement::False => Judgement::True,

@@ -3,11 +3,11 @@
 ghost use Rattle.std.specs.Prelude.{◌≡◌, ◌<◌};
 ghost use Rattle.deck.specs.Deck.{concept_count};
 ghost use Rattle.eval.specs.InLent.{deck_in, structure, Remembered};
-ghost use Rattle.eval.specs.Judge.{truth, judge};
+ghost use Rattle.eval.specs.Judge.{judge};
 ghost use Rattle.eval.specs.Leaf.{AndAt, SomeAt, LeafRead};
 
 use crate::edges::is_sub_role;
-use crate::judgement::Judgement;
+use crate::judgement::{Construct, Judgement};
 use crate::lent::{Judging, Lent};
 use crate::memo::{recall, remember};
 use crate::standing::Standing;
@@ -23,16 +23,6 @@ enum Leaf {
     Some(RoleWord, ConceptId),
 }
 
-pub fn truth_of(holds: bool) -> Judgement
-    ensures { result ≡ truth holds }
-{
-    if holds {
-        Judgement::True
-    } else {
-        Judgement::False
-    }
-}
-
 impl Lent<'_> {
     fn eval_leaf(&self, concept: ConceptId, e: Element) -> Leaf
         requires concept_bound { concept.0 < concept_count (deck_in self.now) }
@@ -44,22 +34,24 @@ impl Lent<'_> {
             ConceptExpr::Top => Leaf::Judged(Judgement::True),
             ConceptExpr::Bot => Leaf::Judged(Judgement::False),
             ConceptExpr::Atomic(class) => {
-                Leaf::Judged(truth_of(self.class_labels().has_class(e, class)))
+                Leaf::Judged(Judgement::from(self.class_labels().has_class(e, class)))
             }
-            ConceptExpr::Nominal(_) => Leaf::Judged(Judgement::Unresolved(3)),
-            ConceptExpr::SelfRestriction(_) => Leaf::Judged(Judgement::Unresolved(4)),
-            ConceptExpr::Not(_) => Leaf::Judged(Judgement::Unresolved(5)),
+            ConceptExpr::Nominal(_) => Leaf::Judged(Judgement::Unresolved(Construct::Nominal)),
+            ConceptExpr::SelfRestriction(_) => Leaf::Judged(Judgement::Unresolved(
+                Construct::SelfRestriction,
+            )),
+            ConceptExpr::Not(_) => Leaf::Judged(Judgement::Unresolved(Construct::Not)),
             ConceptExpr::And(list) => Leaf::And(list),
-            ConceptExpr::Or(_) => Leaf::Judged(Judgement::Unresolved(7)),
+            ConceptExpr::Or(_) => Leaf::Judged(Judgement::Unresolved(Construct::Or)),
             ConceptExpr::Some(role, body) => {
                 if role.is_inverse() {
-                    return Leaf::Judged(Judgement::Unresolved(8));
+                    return Leaf::Judged(Judgement::Unresolved(Construct::InverseSome));
                 }
                 Leaf::Some(role, body)
             }
-            ConceptExpr::All(_, _) => Leaf::Judged(Judgement::Unresolved(9)),
-            ConceptExpr::Min(_, _, _) => Leaf::Judged(Judgement::Unresolved(10)),
-            ConceptExpr::Max(_, _, _) => Leaf::Judged(Judgement::Unresolved(11)),
+            ConceptExpr::All(_, _) => Leaf::Judged(Judgement::Unresolved(Construct::All)),
+            ConceptExpr::Min(_, _, _) => Leaf::Judged(Judgement::Unresolved(Construct::Min)),
+            ConceptExpr::Max(_, _, _) => Leaf::Judged(Judgement::Unresolved(Construct::Max)),
         }
     }
 }

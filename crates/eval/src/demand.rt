@@ -9,7 +9,6 @@ ghost use Rattle.eval.specs.Lowest.{Among, Seen};
 ghost use Rattle.eval.specs.Structure.{pair};
 ghost use Rattle.eval.specs.Verdict.{at_pairs};
 
-use crate::concepts::truth_of;
 use crate::edges::{Edge, edge_by, is_sub_role};
 use crate::judgement::Judgement;
 use crate::lent::Judging;
@@ -37,7 +36,7 @@ impl Demand {
         match self {
             Demand::Domain(concept) => judging.eval_concept(memo, concept, e.from),
             Demand::Range(concept) => judging.eval_concept(memo, concept, e.to),
-            Demand::Within(role) => truth_of(judging.has_pair(role, e.from, e.to)),
+            Demand::Within(role) => Judgement::from(judging.has_pair(role, e.from, e.to)),
         }
     }
 

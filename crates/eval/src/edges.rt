@@ -16,13 +16,15 @@ pub struct Edge {
     pub to: Element,
 }
 
-pub fn read_edge(row: &[u32; 3]) -> Edge
-    ensures { result ≡ edge_of row.now }
-{
-    Edge {
-        role: RoleId(row[0]),
-        from: Element(row[1]),
-        to: Element(row[2]),
+impl From<&[u32; 3]> for Edge {
+    ghost from_gives = { λ row edge. edge ≡ edge_of row.now };
+
+    fn from(row: &[u32; 3]) -> Edge {
+        Edge {
+            role: RoleId(row[0]),
+            from: Element(row[1]),
+            to: Element(row[2]),
+        }
     }
 }
 
@@ -30,7 +32,7 @@ pub fn edge_at(edges: &[[u32; 3]], i: usize) -> Edge
     requires { i < length edges.now }
     ensures { result ≡ edge_of (get_or edges.now i []) }
 {
-    read_edge(&edges[i])
+    Edge::from(&edges[i])
 }
 
 // An edge as a role word sees it: turned if the word is inverse.

@@ -35,7 +35,7 @@ pub fn eval_concept_in(
     ensures exact { (j : Judgement) → result ≡ Ok j → plain (deck_of deck.now) concept.0 ≡ true → (χ : Choice) → j ≡ truth (ext (deck_of deck.now) (structure_of (deck_of deck.now) labels.now edges.now (shape_of elements edge_count)) χ concept.0 element.0) }
 {
     let shape = Shape {
-        elements: elements,
+        elements,
         edges: edge_count,
     };
     let lent = Lent::read(deck, labels, edges, shape)?;
@@ -61,7 +61,7 @@ pub fn check_axiom_in(
     ensures justified { (v : Verdict) → result ≡ Ok v → Justified (deck_of deck.now) (structure_of (deck_of deck.now) labels.now edges.now (shape_of elements edge_count)) (axiom_at (deck_of deck.now) «axiom») v }
 {
     let shape = Shape {
-        elements: elements,
+        elements,
         edges: edge_count,
     };
     let lent = Lent::read(deck, labels, edges, shape)?;

@@ -22,26 +22,19 @@ pub fn is_small(shape: Shape, concepts: u32) -> bool
     shape.edges < 513 && (shape.elements as u64) * (concepts as u64) < 2040
 }
 
-impl Lent<'_> {
-    // Is element e in the concept? In a given room.
-    fn concept_over(
-        &self,
-        index: &mut [u32],
-        memo: &mut [u16],
-        concept: ConceptId,
-        e: Element,
-    ) -> Judgement
-        requires concept_bound { concept.0 < concept_count (deck_in self.now) }
-        requires e_lt_elements { e.0 < self.now.shape.elements }
-        requires blank { Blank memo.old }
-        ensures is { result ≡ judge (deck_in self.now) (structure self.now) concept.0 e.0 }
+impl<'a> Lent<'a> {
+    // The same with an index of the edges, made in the words that are lent for it.
+    pub fn indexed(self, index: &'a mut [u32]) -> Judging<'a>
+        ensures { result.lent ≡ self.entry }
     {
         make_index(self.edges, self.shape.edges, self.shape.elements, index);
-        let judging = Judging { lent: *self, index };
-        judging.eval_concept(memo, concept, e)
+        Judging { lent: self, index }
     }
+}
 
-    // The same in a room of its own, of I words for the index and M for the table: it is made only for a structure that needs it.
+impl Lent<'_> {
+    // Is element e in the concept? In a room of its own, of I words for the index and M for the table: it is made only for a
+    // structure that needs it.
     #[inline(never)]
     fn concept_in_room<const I: usize, const M: usize>(
         &self,
@@ -55,7 +48,7 @@ impl Lent<'_> {
     {
         let mut index: [u32; I] = [0; I];
         let mut memo: [u16; M] = [0; M];
-        self.concept_over(&mut index, &mut memo, concept, e)
+        self.indexed(&mut index).eval_concept(&mut memo, concept, e)
     }
 
     // Is element e in the concept?
@@ -70,18 +63,8 @@ impl Lent<'_> {
         self.concept_in_room::<163843, 262139>(concept, e)
     }
 
-    // Is the axiom satisfied? In a given room.
-    fn axiom_over(&self, index: &mut [u32], memo: &mut [u16], axiom: u32) -> Verdict
-        requires axiom_bound { «axiom» < axiom_count (deck_in self.now) }
-        requires blank { Blank memo.old }
-        ensures is { result ≡ verdict (deck_in self.now) (structure self.now) (axiom_at (deck_in self.now) «axiom») }
-        ensures justified { Justified (deck_in self.now) (structure self.now) (axiom_at (deck_in self.now) «axiom») result }
-    {
-        make_index(self.edges, self.shape.edges, self.shape.elements, index);
-        let judging = Judging { lent: *self, index };
-        judging.check_axiom(memo, axiom)
-    }
-
+    // Is the axiom satisfied? Such a room again, and not one function for both: what is asked in it would be passed as a closure,
+    // whose contract would have to say all that `eval_concept` and `check_axiom` promise.
     #[inline(never)]
     fn axiom_in_room<const I: usize, const M: usize>(&self, axiom: u32) -> Verdict
         requires room { Room I M }
@@ -91,7 +74,7 @@ impl Lent<'_> {
     {
         let mut index: [u32; I] = [0; I];
         let mut memo: [u16; M] = [0; M];
-        self.axiom_over(&mut index, &mut memo, axiom)
+        self.indexed(&mut index).check_axiom(&mut memo, axiom)
     }
 
     // Is the axiom satisfied?

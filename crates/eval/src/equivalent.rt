@@ -8,7 +8,7 @@ ghost use Rattle.eval.specs.Verdict.{across_by, in_turn, verdict, equivalent};
 
 use crate::demand::Demand;
 use crate::lent::{Judging, Lent};
-use crate::verdict::{Verdict, holds};
+use crate::verdict::{Unhandled, Verdict, holds};
 use deck::numbers::RoleWord;
 use deck::rows::Span;
 
@@ -92,7 +92,7 @@ impl Judging<'_> {
         ensures kept { Remembered self.now.lent memo.new }
     {
         if self.lent.any_inverse(list) {
-            return Verdict::UnhandledAxiom(6, 1);
+            return Verdict::UnhandledAxiom(6, Unhandled::Inverse);
         }
         self.check_members(memo, list)
     }

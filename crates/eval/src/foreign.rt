@@ -5,7 +5,7 @@ ghost use Rattle.deck.specs.declared.refusal.Refusal.{Refusal};
 ghost use Rattle.eval.specs.Entry.{LentAs, lent_answer};
 ghost use Rattle.eval.specs.Foreign.{counts_fit, edge_fits, edges_fit, label_fits, labels_fit, structure_fits};
 
-use crate::edges::{Edge, read_edge};
+use crate::edges::Edge;
 use crate::labels::{Labels, label_width};
 use crate::lent::Lent;
 use crate::shape::Shape;
@@ -40,7 +40,7 @@ fn edges_fit(deck: &Deck<'_>, edges: &[[u32; 3]], shape: Shape) -> bool
 {
     edges[..shape.edges as usize]
         .iter()
-        .all(|row| edge_fits(deck, shape.elements, read_edge(row)))
+        .all(|row| edge_fits(deck, shape.elements, Edge::from(row)))
 }
 
 impl Labels<'_> {

@@ -6,7 +6,7 @@ ghost use Rattle.eval.specs.InLent.{deck_in, edges_in, structure};
 ghost use Rattle.eval.specs.Lists.{any};
 ghost use Rattle.eval.specs.Verdict.{guarded};
 
-use crate::edges::{is_sub_role, read_edge};
+use crate::edges::{Edge, is_sub_role};
 use crate::lent::Lent;
 use crate::verdict::Verdict;
 use deck::numbers::RoleId;
@@ -19,7 +19,7 @@ impl Lent<'_> {
     {
         self.edges[..self.shape.edges as usize]
             .iter()
-            .any(|row| is_sub_role(&self.deck, read_edge(row), r))
+            .any(|row| is_sub_role(&self.deck, Edge::from(row), r))
     }
 
     // r has no edges.

@@ -1,6 +1,7 @@
 // An index of the edges by where they leave: a loop over the edges of one element goes from run to run of them.
 // A run is edges that follow one another and leave the same element. Words 0 to 2 say which edges are covered and how
 // many runs there are; then come each element's first run and, for each run, where it starts and which is the next one.
+// Runs are counted from 1, and 0 is none: all of it lies in words that are lent, which have no room for an Option.
 ghost use Rattle.std.specs.Prelude.{◌≡◌, true, ℕ, ◌+◌, ◌*◌, ◌<◌, ◌≤◌, length, get_or, set};
 ghost use Rattle.eval.specs.Index.{from_at, used, head, stop_of, Indexed, Ahead, Jumped, Follows, Built, Entered};
 

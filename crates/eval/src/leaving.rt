@@ -45,7 +45,7 @@ impl<'a> EdgeIndex<'a> {
     {
         Leaving {
             of: *self,
-            x: x,
+            x,
             walk: walk_of(self.index, x),
         }
     }

@@ -15,7 +15,9 @@ pub struct Lent<'a> {
     pub ghost fits: { Fits deck.bytes.now labels.now edges.now shape },
 }
 
-// The same with an index of the edges. What judging remembers, a table that each judgement may change, is lent beside it.
+// The same with an index of the edges. What judging remembers, a table that each judgement may change, is lent beside it: held
+// here by a `&mut` it would have each contract and loop say that the deck, the structure and the index stay as they are.
+// That a number is one of the deck's, or an element, is asked for where it is used: its wrapper of one field cannot hold the deck.
 #[derive(Clone, Copy)]
 pub struct Judging<'a> {
     pub lent: Lent<'a>,

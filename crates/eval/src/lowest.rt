@@ -3,12 +3,12 @@ ghost use Rattle.std.specs.Prelude.{◌≡◌};
 ghost use Rattle.eval.specs.Lowest.{nothing_yet, before, lower, lowest_next};
 
 use crate::edges::Edge;
-use crate::judgement::Judgement;
+use crate::judgement::{Construct, Judgement};
 
 #[derive(Clone, Copy)]
 pub struct Lowest {
     pub failing: Option<Edge>,
-    pub noted: Option<u32>,
+    pub noted: Option<Construct>,
 }
 
 // Is the first edge before the second?
@@ -50,9 +50,9 @@ impl Lowest {
         match j {
             Judgement::False => self.fail(e),
             Judgement::True => self,
-            Judgement::Unresolved(tag) => Lowest {
+            Judgement::Unresolved(construct) => Lowest {
                 failing: self.failing,
-                noted: Some(tag),
+                noted: Some(construct),
             },
         }
     }

@@ -1,9 +1,9 @@
 // Judgements remembered by concept and element, in a lent table of words. Each key has one word: its quotient by the length of
 // the table, times 16, and the code of the judgement.
 ghost use Rattle.std.specs.Prelude.{◌≡◌, ◌<◌, length};
-ghost use Rattle.eval.specs.Memo.{code_of, key_of, recalled, recalled_as, stored};
+ghost use Rattle.eval.specs.Memo.{code_of, judgement_of, key_of, recalled, stored};
 
-use crate::judgement::Judgement;
+use crate::judgement::{Construct, Judgement};
 use deck::numbers::{ConceptId, Element};
 
 fn key(elements: u32, concept: ConceptId, e: Element) -> u64
@@ -12,28 +12,28 @@ fn key(elements: u32, concept: ConceptId, e: Element) -> u64
     concept.0 as u64 * elements as u64 + e.0 as u64
 }
 
-// The code of a judgement, 0 where there is none: a code, and not an Option, as it is packed in the low four bits of a word.
+// The code of a judgement. It is a number, 0 for none, as it is packed in the low four bits of a word of the lent table.
 fn code_of(j: Judgement) -> u32
     ensures { result ≡ code_of j }
 {
     match j {
         Judgement::False => 1,
         Judgement::True => 2,
-        Judgement::Unresolved(tag) => match tag {
-            2..=14 => tag + 1,
-            _ => 0,
-        },
+        Judgement::Unresolved(construct) => u32::from(construct) + 1,
     }
 }
 
-fn recalled_as(code: u32) -> Option<Judgement>
-    ensures { result ≡ recalled_as code }
+fn judgement_of(code: u32) -> Option<Judgement>
+    ensures { result ≡ judgement_of code }
 {
     match code {
         0 => None,
         1 => Some(Judgement::False),
         2 => Some(Judgement::True),
-        _ => Some(Judgement::Unresolved(code - 1)),
+        _ => match Construct::try_from(code - 1) {
+            Ok(construct) => Some(Judgement::Unresolved(construct)),
+            Err(_) => None,
+        },
     }
 }
 
@@ -48,7 +48,7 @@ pub fn recall(memo: &[u16], elements: u32, concept: ConceptId, e: Element) -> Op
     if (w / 16) as u64 != k / room {
         return None;
     }
-    recalled_as((w % 16) as u32)
+    judgement_of((w % 16) as u32)
 }
 
 fn store(memo: &mut [u16], k: u64, code: u32)

@@ -8,7 +8,7 @@ ghost use Rattle.eval.specs.Verdict.{at_pairs, links, unless_inverse, verdict};
 
 use crate::demand::Demand;
 use crate::lent::Judging;
-use crate::verdict::{Verdict, holds};
+use crate::verdict::{Unhandled, Verdict, holds};
 use deck::numbers::RoleWord;
 use deck::rows::Span;
 
@@ -22,10 +22,10 @@ impl Judging<'_> {
         ensures kept { Remembered self.now.lent memo.new }
     {
         if sub.is_inverse() {
-            return Verdict::UnhandledAxiom(4, 1);
+            return Verdict::UnhandledAxiom(4, Unhandled::Inverse);
         }
         if sup.is_inverse() {
-            return Verdict::UnhandledAxiom(4, 1);
+            return Verdict::UnhandledAxiom(4, Unhandled::Inverse);
         }
         self.check_pairs(memo, sub, Demand::Within(sup))
     }
@@ -39,7 +39,7 @@ impl Judging<'_> {
         ensures kept { Remembered self.now.lent memo.new }
     {
         if role.is_inverse() {
-            return Verdict::UnhandledAxiom(tag, 1);
+            return Verdict::UnhandledAxiom(tag, Unhandled::Inverse);
         }
         self.check_pairs(memo, role, demand)
     }
@@ -50,7 +50,7 @@ impl Judging<'_> {
         ensures { result ≡ verdict (deck_in self.now.lent) (structure self.now.lent) (Axiom.TransitiveRole (role_of role.0)) }
     {
         if role.is_inverse() {
-            return Verdict::UnhandledAxiom(11, 1);
+            return Verdict::UnhandledAxiom(11, Unhandled::Inverse);
         }
         let r = role.role_id();
         self.check_composed(r, r, r)
@@ -62,7 +62,7 @@ impl Judging<'_> {
         ensures { result ≡ verdict (deck_in self.now.lent) (structure self.now.lent) (Axiom.SymmetricRole (role_of role.0)) }
     {
         if role.is_inverse() {
-            return Verdict::UnhandledAxiom(12, 1);
+            return Verdict::UnhandledAxiom(12, Unhandled::Inverse);
         }
         self.lent.check_guarded(role.role_id())
     }
@@ -74,10 +74,10 @@ impl Judging<'_> {
         ensures { result ≡ verdict (deck_in self.now.lent) (structure self.now.lent) (Axiom.InverseObjectProperties (role_of p.0) (role_of q.0)) }
     {
         if p.is_inverse() {
-            return Verdict::UnhandledAxiom(8, 1);
+            return Verdict::UnhandledAxiom(8, Unhandled::Inverse);
         }
         if q.is_inverse() {
-            return Verdict::UnhandledAxiom(8, 1);
+            return Verdict::UnhandledAxiom(8, Unhandled::Inverse);
         }
         let first = self.lent.check_guarded(p.role_id());
         if !holds(first) {
@@ -94,13 +94,13 @@ impl Judging<'_> {
         ensures { result ≡ links (deck_in self.now.lent) (structure self.now.lent) (role_of a.0) (role_of b.0) (role_of sup.0) }
     {
         if a.is_inverse() {
-            return Verdict::UnhandledAxiom(5, 1);
+            return Verdict::UnhandledAxiom(5, Unhandled::Inverse);
         }
         if b.is_inverse() {
-            return Verdict::UnhandledAxiom(5, 1);
+            return Verdict::UnhandledAxiom(5, Unhandled::Inverse);
         }
         if sup.is_inverse() {
-            return Verdict::UnhandledAxiom(5, 1);
+            return Verdict::UnhandledAxiom(5, Unhandled::Inverse);
         }
         self.check_composed(a.role_id(), b.role_id(), sup.role_id())
     }
@@ -112,7 +112,7 @@ impl Judging<'_> {
         ensures { result ≡ verdict (deck_in self.now.lent) (structure self.now.lent) (Axiom.SubObjectPropertyChain (map role_of (list_of self.now.lent.deck.bytes.now list)) (role_of sup.0)) }
     {
         if list.count != 2 {
-            return Verdict::UnhandledAxiom(5, 2);
+            return Verdict::UnhandledAxiom(5, Unhandled::ChainLength);
         }
         let a = RoleWord(self.lent.deck.item(list, 0));
         let b = RoleWord(self.lent.deck.item(list, 1));

@@ -1,14 +1,22 @@
 // What an And or a Some has come to after the operands or the successors judged so far.
 ghost use Rattle.std.specs.Prelude.{◌≡◌};
-ghost use Rattle.eval.specs.Standing.{fresh, and_next, some_next, close, and_close, some_close};
+ghost use Rattle.eval.specs.Standing.{fresh, unless_noted, and_next, some_next, close, and_close, some_close};
 
-use crate::judgement::Judgement;
+use crate::judgement::{Construct, Judgement};
 
-// Is it decided, and if not, the tag of the last construct that was left open?
+// Is it decided, and if not, the last construct that was left open? `ended` stands beside `noted`, and not in its place, as a
+// standing that has ended keeps what it noted: it is a struct whose methods take a judgement and return the next one.
 #[derive(Clone, Copy)]
 pub struct Standing {
     pub ended: bool,
-    pub noted: Option<u32>,
+    pub noted: Option<Construct>,
+}
+
+// The judgement, unless a construct was noted.
+pub fn unless_noted(noted: Option<Construct>, otherwise: Judgement) -> Judgement
+    ensures { result ≡ unless_noted noted otherwise }
+{
+    noted.map_or(otherwise, Judgement::Unresolved)
 }
 
 // `and` and `some` stay two functions: a match on what ends each says the rule, and one of both would need it as a parameter.
@@ -49,9 +57,9 @@ impl Standing {
                 noted: self.noted,
             },
             Judgement::False => self,
-            Judgement::Unresolved(tag) => Standing {
+            Judgement::Unresolved(construct) => Standing {
                 ended: self.ended,
-                noted: Some(tag),
+                noted: Some(construct),
             },
         }
     }
@@ -63,10 +71,7 @@ impl Standing {
         if self.ended {
             return ended;
         }
-        match self.noted {
-            Some(tag) => Judgement::Unresolved(tag),
-            None => passed,
-        }
+        unless_noted(self.noted, passed)
     }
 
     // What an And comes to.

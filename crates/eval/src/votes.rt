@@ -3,7 +3,8 @@ ghost use Rattle.std.specs.Prelude.{◌≡◌, ◌+◌, ◌<◌};
 ghost use Rattle.eval.specs.Relation.{outcome};
 ghost use Rattle.eval.specs.Verdict.{no_votes, vote, agreement, disjointness};
 
-use crate::judgement::Judgement;
+use crate::judgement::{Construct, Judgement};
+use crate::standing::unless_noted;
 
 // What an axiom says of the members of a list.
 #[derive(Clone, Copy)]
@@ -12,13 +13,13 @@ pub enum Relation {
     Disjoint,
 }
 
-// How many are true, false and unresolved, and the last unresolved tag.
+// How many are true, false and unresolved, and the last construct left open.
 #[derive(Clone, Copy)]
 pub struct Votes {
     pub trues: u32,
     pub falses: u32,
     pub unresolved: u32,
-    pub tag: u32,
+    pub noted: Option<Construct>,
 }
 
 impl Votes {
@@ -29,7 +30,7 @@ impl Votes {
             trues: 0,
             falses: 0,
             unresolved: 0,
-            tag: 0,
+            noted: None,
         }
     }
 
@@ -42,9 +43,9 @@ impl Votes {
         match j {
             Judgement::True => votes.trues += 1,
             Judgement::False => votes.falses += 1,
-            Judgement::Unresolved(tag) => {
+            Judgement::Unresolved(construct) => {
                 votes.unresolved += 1;
-                votes.tag = tag;
+                votes.noted = Some(construct);
             }
         }
         votes
@@ -71,8 +72,8 @@ impl Votes {
         if 0 < trues && 0 < falses {
             return Judgement::False;
         }
-        if 0 < unresolved && (0 < trues || 0 < falses || 2 <= unresolved) {
-            return Judgement::Unresolved(self.tag);
+        if 0 < trues || 0 < falses || 2 <= unresolved {
+            return unless_noted(self.noted, Judgement::True);
         }
         Judgement::True
     }
@@ -87,8 +88,8 @@ impl Votes {
         if 2 <= trues {
             return Judgement::False;
         }
-        if 0 < unresolved && 2 <= trues + unresolved {
-            return Judgement::Unresolved(self.tag);
+        if 2 <= trues + unresolved {
+            return unless_noted(self.noted, Judgement::True);
         }
         Judgement::True
     }

@@ -16,14 +16,14 @@ use eval::equip::is_small;
 use eval::index::make_index;
 use eval::lent::{Judging, Lent};
 use eval::shape::Shape;
-use eval::verdict::{Verdict, verdict_words};
+use eval::verdict::Verdict;
 
 // The four words of a verdict, from a place on.
 fn store(verdicts: &mut [u32], at: usize, verdict: Verdict)
     requires { at + 4 ≤ length verdicts.old }
     ensures { verdicts.new ≡ sets verdicts.old at (words_of verdict) }
 {
-    verdicts[at..at + 4].copy_from_slice(&verdict_words(verdict));
+    verdicts[at..at + 4].copy_from_slice(&<[u32; 4]>::from(verdict));
 }
 
 // Have two axioms the same record? Then they are the same axiom.

@@ -91,7 +91,7 @@ fn print_judgement(rt: &impl Print, judgement: Judgement) -> io::Result<()> {
     match judgement {
         Judgement::False => print_byte(rt, b'f'),
         Judgement::True => print_byte(rt, b't'),
-        Judgement::Unresolved(tag) => print_byte(rt, digit(tag)),
+        Judgement::Unresolved(construct) => print_byte(rt, digit(u32::from(construct))),
     }
 }
 
@@ -115,7 +115,7 @@ fn print_words(rt: &impl Print, words: [u32; 4]) -> io::Result<()> {
 fn print_axiom(rt: &impl Print, answer: Result<Verdict, Refusal>) -> io::Result<()> {
     match answer {
         Err(refusal) => print_refusal(rt, refusal),
-        Ok(verdict) => print_words(rt, eval::verdict::verdict_words(verdict)),
+        Ok(verdict) => print_words(rt, verdict.into()),
     }
 }
 

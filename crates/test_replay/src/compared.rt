@@ -49,7 +49,7 @@ fn judgement_word(answer: Result<Judgement, Refusal>) -> u32 {
         Err(refusal) => 1000 + refusal.number() % 100,
         Ok(Judgement::False) => 0,
         Ok(Judgement::True) => 1,
-        Ok(Judgement::Unresolved(tag)) => 2 + tag % 100,
+        Ok(Judgement::Unresolved(construct)) => 2 + u32::from(construct) % 100,
     }
 }
 

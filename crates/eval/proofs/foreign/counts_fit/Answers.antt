@@ -1,21 +1,15 @@
 use Prim.Native.Nat.{◌*◌}
-use native.Mathlib.Omega.{arith}
 use borrow.Author.Tests.{le-leb, lt-leb}
 use lib.ListN.{length}
 use Rattle.deck.specs.Content.{deck_of}
 use Rattle.eval.specs.Lent.{label_width}
 use Rattle.eval.specs.Foreign.{counts_fit}
-use Rattle.eval.proofs.ForeignLaws.{room_small}
 use Rattle.eval.proofs.foreign.counts_fit.Goals as goal
 
 pub returns-then-elements-gt65536 : goal.returns-then-elements-gt65536
 unfolding counts_fit
 returns-then-elements-gt65536 c =
     simp (lt-leb c.args.shape.elements 65536 c.if-elements-gt65536.true)
-
-pub overflow_mul-elements : goal.overflow_mul-elements
-overflow_mul-elements c =
-    omega (arith, room_small c.args.shape.elements c.label_width.result c.if-elements-gt65536.false c.label_width.ensures.1)
 
 pub returns-then-elements-label_width : goal.returns-then-elements-label_width
 unfolding counts_fit

@@ -9,4 +9,4 @@ pub returns : goal.returns
 returns c =
     let a = c.args in
     let n = length-words a.verdict in
-    put_mid-paste a.at _ a.verdicts.now _ (words_of a.verdict) 4 (c.copy_from_slice.ensures.after ∙ c.verdict_words.ensures) (omega arith) (sym n) ∙ paste-sets a.verdicts.now (words_of a.verdict) a.at 4 n c.requires
+    put_mid-paste a.at _ a.verdicts.now _ (words_of a.verdict) 4 (c.copy_from_slice.ensures.after ∙ c.from.ensures) (omega arith) (sym n) ∙ paste-sets a.verdicts.now (words_of a.verdict) a.at 4 n c.requires

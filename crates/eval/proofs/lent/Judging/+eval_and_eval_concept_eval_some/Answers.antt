@@ -20,9 +20,9 @@ use Rattle.eval.proofs.LeavingLaws.{leaves-in}
 use Rattle.eval.proofs.LentLaws.{edge-fits}
 use Rattle.eval.proofs.lent.Judging.+eval_and_eval_concept_eval_some.Goals as goal
 
-pub eval_and-returns-in-Some : goal.eval_and-returns-in-Some
-eval_and-returns-in-Some t c =
-    record { is = recalled-right _ _ c.requires.remembered c.args.owner.0 c.args.e.0 c.requires.e_lt_elements c.recall.result c.recall.ensures _ c.in-Some.is; kept = c.requires.remembered }
+pub eval_and-returns-in-Some-clause-is : goal.eval_and-returns-in-Some-clause-is
+eval_and-returns-in-Some-clause-is t c =
+    recalled-right _ _ c.requires.remembered c.args.owner.0 c.args.e.0 c.requires.e_lt_elements c.recall.result c.recall.ensures _ c.in-Some.is
 
 pub eval_and-eval_concept-requires : goal.eval_and-eval_concept-requires
 eval_and-eval_concept-requires t c =
@@ -55,9 +55,9 @@ eval_and-returns t c =
     let v = c.close_and.ensures ∙ and-end _ w.standing (list_of s l) w.i (omega (arith, c.loop-i.auto, list_length s l.start l.count)) ∙ sym w.invariant.1 ∙ and_is _ _ _ _ c.args.self.now.lent.fits c.args.owner.0 c.args.e.0 c.requires.and_at in
     record { is = c.remember-2.ensures.same ∙ v; kept = remembered-with w.invariant.0 c.args.owner.0 c.args.e.0 c.requires.e_lt_elements v c.remember-2.ensures.kept }
 
-pub eval_some-returns-in-Some : goal.eval_some-returns-in-Some
-eval_some-returns-in-Some t c =
-    record { is = recalled-right _ _ c.requires.remembered c.args.owner.0 c.args.e.0 c.requires.e_lt_elements c.recall.result c.recall.ensures _ c.in-Some.is; kept = c.requires.remembered }
+pub eval_some-returns-in-Some-clause-is : goal.eval_some-returns-in-Some-clause-is
+eval_some-returns-in-Some-clause-is t c =
+    recalled-right _ _ c.requires.remembered c.args.owner.0 c.args.e.0 c.requires.e_lt_elements c.recall.result c.recall.ensures _ c.in-Some.is
 
 pub eval_some-returns-then-standing : goal.eval_some-returns-then-standing
 eval_some-returns-then-standing t c =

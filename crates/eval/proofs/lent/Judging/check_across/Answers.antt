@@ -1,5 +1,5 @@
 use mathlib.Core.Path.{◌≡◌, refl, sym, ◌∙◌}
-use borrow.Author.Tests.{eq-eqb, ne_eqb, eqb-true, eqb-false}
+use borrow.Author.Tests.{eq-eqb, ne_eqb, eqb-false}
 use mathlib.Core.Bool.{Bool, true, false}
 use Rattle.deck.specs.Deck.{Deck, Role}
 use Rattle.eval.specs.Structure.{Structure}
@@ -7,7 +7,6 @@ use Rattle.eval.specs.declared.verdict.Verdict.{Verdict}
 use Rattle.eval.specs.declared.verdict.Verdict.TheVariants.{Holds}
 use Rattle.deck.specs.Deck.{role_of, role_id}
 use Rattle.deck.proofs.TagLaws.{role-id}
-use Rattle.eval.specs.InLent.{deck_in, structure}
 use Rattle.eval.specs.Verdict.{across, across_by, within}
 use Rattle.eval.proofs.lent.Judging.check_across.Goals as goal
 
@@ -23,13 +22,6 @@ same-role false D S x y e = simp (eq-eqb (role_id x) (role_id y) e)
 
 other-role : (D : Deck) (S : Structure) (x y : Role) → (role_id x ≡ role_id y → ⊥) → {v : Verdict} → v ≡ within D S x y → v ≡ across D S x y
 other-role D S x y e p = simp (ne_eqb (role_id x) (role_id y) e) p
-
-pub returns-then-eq-clause-is : goal.returns-then-eq-clause-is
-returns-then-eq-clause-is c =
-    let z = c.args in
-    let a = role-id z.a.0 ∙ sym c.role_id.ensures in
-    let b = role-id z.b.0 ∙ sym c.role_id-2.ensures in
-    same-role z.turned (deck_in z.self.now.lent) (structure z.self.now.lent) (role_of z.a.0) (role_of z.b.0) (a ∙ eqb-true c.role_id.result.0 c.role_id-2.result.0 (sym c.eq.ensures ∙ c.if-eq.true) ∙ sym b)
 
 pub returns-then-turned-clause-is : goal.returns-then-turned-clause-is
 unfolding within

@@ -2,13 +2,13 @@ use native.Mathlib.Omega.{arith}
 use Rattle.eval.proofs.AxiomLaws.{answer, unhandled, declaration}
 use Rattle.eval.proofs.lent.Judging.check_axiom.Goals as goal
 
-pub returns-in-0-to-3 : goal.returns-in-0-to-3
-returns-in-0-to-3 c =
-    let a = answer _ _ _ _ c.args.self.now.lent.fits c.args.axiom c.axiom_at-record.ensures c.check_class_axiom.ensures.is in record { is = a.0; justified = a.1; kept = c.check_class_axiom.ensures.kept }
+pub returns-in-0-to-3-clause-justified : goal.returns-in-0-to-3-clause-justified
+returns-in-0-to-3-clause-justified c =
+    let a = answer _ _ _ _ c.args.self.now.lent.fits c.args.axiom c.axiom_at-record.ensures c.check_class_axiom.ensures.is in a.1
 
-pub returns-in-4-to-12 : goal.returns-in-4-to-12
-returns-in-4-to-12 c =
-    let a = answer _ _ _ _ c.args.self.now.lent.fits c.args.axiom c.axiom_at-record.ensures c.check_role_axiom.ensures.is in record { is = a.0; justified = a.1; kept = c.check_role_axiom.ensures.kept }
+pub returns-in-4-to-12-clause-justified : goal.returns-in-4-to-12-clause-justified
+returns-in-4-to-12-clause-justified c =
+    let a = answer _ _ _ _ c.args.self.now.lent.fits c.args.axiom c.axiom_at-record.ensures c.check_role_axiom.ensures.is in a.1
 
 pub returns-in-13-to-17 : goal.returns-in-13-to-17
 returns-in-13-to-17 c =

@@ -6,29 +6,29 @@ use Rattle.eval.specs.InLent.{deck_in, structure}
 use Rattle.eval.proofs.EquivalentLaws.{words-none, words-stop, words-go}
 use Rattle.eval.proofs.lent.Judging.check_members.Goals as goal
 
-pub returns-then-list-eq0 : goal.returns-then-list-eq0
-returns-then-list-eq0 c =
+pub returns-then-list-eq0-clause-is : goal.returns-then-list-eq0-clause-is
+returns-then-list-eq0-clause-is c =
     let l = c.args.list in
     let ws = list_of c.args.self.now.lent.deck.bytes.now l in
     let h = list_length c.args.self.now.lent.deck.bytes.now l.start l.count in
     let D = deck_in c.args.self.now.lent in
-    let S = structure c.args.self.now.lent in record { is = words-none D S ws (h ∙ c.if-list-eq0.true); kept = c.requires.remembered }
+    let S = structure c.args.self.now.lent in words-none D S ws (h ∙ c.if-list-eq0.true)
 
-pub returns-then-not-holds : goal.returns-then-not-holds
-returns-then-not-holds c =
+pub returns-then-not-holds-clause-is : goal.returns-then-not-holds-clause-is
+returns-then-not-holds-clause-is c =
     let l = c.args.list in
     let ws = list_of c.args.self.now.lent.deck.bytes.now l in
     let h = list_length c.args.self.now.lent.deck.bytes.now l.start l.count in
     let D = deck_in c.args.self.now.lent in
-    let S = structure c.args.self.now.lent in record { is = words-stop D S ws (omega (arith, h, c.if-list-eq0.false)) c.requires.list_value _ c.item.ensures c.check_against-v.ensures.is (sym c.holds.ensures ∙ c.if-not-holds.true); kept = c.check_against-v.ensures.kept }
+    let S = structure c.args.self.now.lent in words-stop D S ws (omega (arith, h, c.if-list-eq0.false)) c.requires.list_value _ c.item.ensures c.check_against-v.ensures.is (sym c.holds.ensures ∙ c.if-not-holds.true)
 
-pub returns : goal.returns
-returns c =
+pub returns-clause-is : goal.returns-clause-is
+returns-clause-is c =
     let l = c.args.list in
     let ws = list_of c.args.self.now.lent.deck.bytes.now l in
     let h = list_length c.args.self.now.lent.deck.bytes.now l.start l.count in
     let D = deck_in c.args.self.now.lent in
-    let S = structure c.args.self.now.lent in record { is = words-go D S ws (omega (arith, h, c.if-list-eq0.false)) c.requires.list_value _ c.item.ensures c.check_against-v.ensures.is (sym c.holds.ensures ∙ c.if-not-holds.false) c.check_against.ensures.is; kept = c.check_against.ensures.kept }
+    let S = structure c.args.self.now.lent in words-go D S ws (omega (arith, h, c.if-list-eq0.false)) c.requires.list_value _ c.item.ensures c.check_against-v.ensures.is (sym c.holds.ensures ∙ c.if-not-holds.false) c.check_against.ensures.is
 
 pub check_against-v-requires-clause-a_bound : goal.check_against-v-requires-clause-a_bound
 check_against-v-requires-clause-a_bound c =

@@ -22,7 +22,7 @@ loop-i-preserved c =
     let h : z.i < length (edges_of rows n) = omega (arith, edges-length rows n F.count) in
     elim c.if-is_sub_role.branch [
       | then-is_sub_role w ↦ rw (w.lowest-is, w.next-lowest.ensures, same)
-          (seen_next _ _ (edges_of rows n) no_edge z.i h (rw same at (sym c.is_sub_role.ensures ∙ w.if-is_sub_role.true)) (rw same at (w.truth_of.ensures ∙ ap truth (w.holds.ensures ∙ ap is_holds w.check_onward-v.ensures))) z.invariant)
+          (seen_next _ _ (edges_of rows n) no_edge z.i h (rw same at (sym c.is_sub_role.ensures ∙ w.if-is_sub_role.true)) (rw same at (w.from.ensures ∙ ap truth (w.holds.ensures ∙ ap is_holds w.check_onward-v.ensures))) z.invariant)
       | else-is_sub_role w ↦ rw w.lowest-is (seen_skip _ _ (edges_of rows n) no_edge z.i h (rw same at (sym c.is_sub_role.ensures ∙ w.if-is_sub_role.false)) z.invariant)
     ]
 
@@ -30,9 +30,3 @@ pub returns : goal.returns
 returns c =
     let L = c.args.self.now.lent in
     seen_end _ _ (edges_in L) c.loop-i.i (omega (arith, c.loop-i.auto, edges-length L.edges.now L.shape.edges L.fits.count)) c.loop-i.invariant
-
-pub check_onward-v-requires-clause-x_lt_elements : goal.check_onward-v-requires-clause-x_lt_elements
-check_onward-v-requires-clause-x_lt_elements c = rw c.edge_at-e.ensures (c.args.self.now.lent.fits.ends c.loop-i.i (omega arith)).from
-
-pub check_onward-v-requires-clause-y_lt_elements : goal.check_onward-v-requires-clause-y_lt_elements
-check_onward-v-requires-clause-y_lt_elements c = rw c.edge_at-e.ensures (c.args.self.now.lent.fits.ends c.loop-i.i (omega arith)).to

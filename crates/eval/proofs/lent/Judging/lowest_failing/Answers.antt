@@ -6,7 +6,7 @@ use Rattle.deck.specs.Deck.{role_of}
 use Rattle.eval.specs.Edges.{edges_of, edges_by, turned}
 use Rattle.eval.specs.InLent.{edges_in}
 use Rattle.eval.proofs.EdgeWalks.{no_edge, by_length, by-at}
-use Rattle.eval.proofs.LentLaws.{edge-under, edge-by-fits}
+use Rattle.eval.proofs.LentLaws.{edge-under}
 use Rattle.eval.proofs.SeenLaws.{seen_start, seen_skip, seen_next, seen_end}
 use Rattle.eval.proofs.lent.Judging.lowest_failing.Goals as goal
 use Rattle.eval.proofs.lent.Judging.lowest_failing.Goals.{then-is_sub_role, else-is_sub_role}
@@ -38,11 +38,8 @@ loop-i-preserved c =
       )
     ]
 
-pub meets-requires-clause-edge_fits : goal.meets-requires-clause-edge_fits
-meets-requires-clause-edge_fits c = edge-by-fits _ _ _ _ c.args.self.now.lent.fits c.args.role.0 c.loop-i.i (omega arith) c.edge_by-e.ensures
-
-pub returns : goal.returns
-returns c =
+pub returns-clause-is : goal.returns-clause-is
+returns-clause-is c =
     let L = c.args.self.now.lent in
     let role = role_of c.args.role.0 in
-    record { is = seen_end _ _ (edges_by role (edges_in L)) c.loop-i.i (omega (arith, c.loop-i.auto, by_length role L.edges.now L.shape.edges L.fits.count)) c.loop-i.invariant.0; kept = c.loop-i.invariant.1 }
+    seen_end _ _ (edges_by role (edges_in L)) c.loop-i.i (omega (arith, c.loop-i.auto, by_length role L.edges.now L.shape.edges L.fits.count)) c.loop-i.invariant.0

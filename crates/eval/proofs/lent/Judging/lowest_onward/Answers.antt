@@ -29,9 +29,9 @@ loop-e-preserved-then-leaves_by c =
     let e = c.in-Some.e in
     let f : Edge → Judgement = λ d. truth (has_edge D (structure a.self.now.lent) a.sup.0 a.x.0 d.to.0) in
     let t = YieldsList-turn (YieldsList-from_first (λ (e : Edge). e) left es (cc)) c.loop-e.yielded _ c.loop-e.yielded_by _ c.next.new.self e c.in-Some.is c.next.ensures.steps in
-    let j = c.truth_of.ensures ∙ ap truth (c.has_edge-linked.ensures ∙ sym (has-edge-is _ a.self.now.lent.labels.now a.self.now.lent.edges.now a.self.now.lent.shape _ _ _)) ∙ ap f t.1 in
+    let j = c.from.ensures ∙ ap truth (c.has_edge-linked.ensures ∙ sym (has-edge-is _ a.self.now.lent.labels.now a.self.now.lent.edges.now a.self.now.lent.shape _ _ _)) ∙ ap f t.1 in
     let S = seen_next (leaves D a.b.0 a.y.0) f es e (length c.loop-e.yielded) t.0 (ap (leaves D a.b.0 a.y.0) (sym t.1) ∙ sym c.leaves_by.ensures ∙ c.if-leaves_by.true) j c.loop-e.invariant in
-    rw (length_push c.loop-e.yielded e, c.next-lowest.ensures) (subst (λ (d : Edge). SeenTo (leaves D a.b.0 a.y.0) f es (length c.loop-e.yielded + 1) (lowest_next c.loop-e.lowest c.truth_of.result d)) (sym t.1) S)
+    rw (length_push c.loop-e.yielded e, c.next-lowest.ensures) (subst (λ (d : Edge). SeenTo (leaves D a.b.0 a.y.0) f es (length c.loop-e.yielded + 1) (lowest_next c.loop-e.lowest c.from.result d)) (sym t.1) S)
 
 pub loop-e-preserved : goal.loop-e-preserved
 loop-e-preserved c =

@@ -1,4 +1,4 @@
-use Rattle.eval.proofs.LeafLaws.{leaf-is, leaf-some, leaf-inverse}
+use Rattle.eval.proofs.LeafLaws.{leaf-is, leaf-inverse}
 use Rattle.eval.specs.Judge.{judge_of, truth}
 use mathlib.Core.Path.{sym, ap, ◌∙◌}
 use Rattle.eval.proofs.lent.Lent.eval_leaf.Goals as goal
@@ -20,7 +20,7 @@ returns-in-Bot c =
 pub returns-in-Atomic : goal.returns-in-Atomic
 unfolding judge_of
 returns-in-Atomic c =
-    λ rows. c.truth_of.ensures ∙ ap truth (rw (c.class_labels.ensures.0, c.class_labels.ensures.1) at c.has_class.ensures) ∙ leaf-is _ c.args.self.now.fits.accepted c.args.concept.0 c.concept_at-expr.ensures c.args.self.now.labels.now c.args.self.now.shape c.args.e.0 _ c.in-Atomic.is rows
+    λ rows. c.from.ensures ∙ ap truth (rw (c.class_labels.ensures.0, c.class_labels.ensures.1) at c.has_class.ensures) ∙ leaf-is _ c.args.self.now.fits.accepted c.args.concept.0 c.concept_at-expr.ensures c.args.self.now.labels.now c.args.self.now.shape c.args.e.0 _ c.in-Atomic.is rows
 
 pub returns-in-Nominal : goal.returns-in-Nominal
 unfolding judge_of
@@ -41,10 +41,6 @@ pub returns-in-Or : goal.returns-in-Or
 unfolding judge_of
 returns-in-Or c =
     leaf-is _ c.args.self.now.fits.accepted c.args.concept.0 c.concept_at-expr.ensures c.args.self.now.labels.now c.args.self.now.shape c.args.e.0 _ c.in-Or.is
-
-pub returns-else-is_inverse : goal.returns-else-is_inverse
-returns-else-is_inverse c =
-    leaf-some _ c.args.self.now.fits.accepted c.args.concept.0 c.concept_at-expr.ensures _ _ c.in-Some.is (sym c.is_inverse.ensures ∙ c.if-is_inverse.false)
 
 pub returns-in-All : goal.returns-in-All
 unfolding judge_of

@@ -1,8 +1,0 @@
-use Rattle.eval.specs.InLent.{deck_in, structure}
-use Rattle.eval.proofs.MemoLaws.{fresh-memo}
-use Rattle.eval.proofs.lent.Lent.concept_over.Goals as goal
-
-pub eval_concept-requires-clause-remembered : goal.eval_concept-requires-clause-remembered
-eval_concept-requires-clause-remembered c =
-    let L = c.args.self.now in
-    fresh-memo (deck_in L) (structure L) c.args.memo.now c.requires.blank.room c.requires.blank.zero
