@@ -49,10 +49,9 @@ use Rattle.eval.proofs.Walks.{list-step}
 use Rattle.build.specs.declared.bounds.Bounds.{Bounds}
 use Rattle.atoms.specs.Label.{label_has}
 use Rattle.atoms.specs.Walk.{walk}
-use Rattle.atoms.specs.Rows.{Wide, none, more}
 use Rattle.build.specs.declared.building.Build.{Build}
 use Rattle.build.specs.Model.{Model}
-use Rattle.build.specs.Building.{deck_in, model_of, model_by, Ready, Same}
+use Rattle.build.specs.Building.{deck_in, model_by, Same}
 use Rattle.build.specs.Exists.{builds, builds_at, work_of, work_step, idle, work}
 use Rattle.model.specs.Rounds.{fire, fire_pair, fire_from, fire_axiom}
 use Rattle.atoms.specs.Antecedent.{is_rule, holds_atoms}
@@ -61,8 +60,6 @@ use Rattle.model.specs.Triggers.{adds_as, may_add, Needs, Idle, IsTrigger, word_
 use Rattle.atoms.proofs.FloorLaws.{read_is, fits_read}
 use Rattle.atoms.proofs.WalkLaws.{walk-keeps, walk-fixed}
 use Rattle.atoms.proofs.AntecedentLaws.{holds-and, holds-atomic}
-use Rattle.atoms.proofs.RowLaws.{length-rows, rows-wide}
-use Rattle.build.proofs.BuildLaws.{all_fit}
 use Rattle.build.proofs.BuildingLaws.{Walking}
 use Rattle.build.proofs.IdleLaws.{either, no-build}
 use Rattle.model.proofs.SkipLaws.{walk-skip}
@@ -325,16 +322,6 @@ module _ {D : Deck} {table : List ℕ} where
   }
 
 -- ---- from one axiom to the next that may add something, at an element of a label
-wide_at : {w : ℕ} {ls : List (List ℕ)} → Wide w ls → (e : ℕ) → e < length ls → length (get_or ls e []) ≡ w
-wide_at none e h = absurd (omega arith)
-wide_at (more p W) zero h = p
-wide_at (more p W) (suc e) h = wide_at W e (omega arith)
-
-pub label-wide : (b : Build) → Ready b → (e : ℕ) → e < b.tally.elements → length (get_or (model_of b).labels e []) ≡ label_width (deck_in b)
-label-wide b P e h =
-    let w = label_width (deck_in b) in
-    wide_at (rows-wide w b.tally.elements b.labels.now (all_fit P)) e (omega (arith, h, length-rows w b.tally.elements b.labels.now))
-
 abbrev Passed : Deck → List ℕ → ℕ → ℕ → Type 0
 Passed D label i j = (k : ℕ) → i ≤ k → k < j → (floor : List ℕ) (B : Bounds) (e : ℕ) (m : Model) → get_or m.labels e [] ≡ label → fire_axiom D floor B e (axiom_at D k) m ≡ m
 

@@ -1,9 +1,10 @@
 // Rounds of rules over the elements, until a round adds no element. What is asked of an element or of the table of triggers is said of the structure,
 // which every step changes: a struct with an invariant would be made anew for each, and so these are parameters beside it.
-ghost use Rattle.std.specs.Prelude.{◌≡◌, ◌&&◌, ◌<◌, ◌≤◌, [], get_or, is_err, IfOk};
+ghost use Rattle.std.specs.Prelude.{◌≡◌, ◌&&◌, ◌<◌, ◌≤◌, [], length, get_or, is_err, IfOk};
 ghost use Rattle.deck.specs.Accepted.{content};
 ghost use Rattle.deck.specs.Deck.{Axiom, concept_count, axiom_at, axiom_count};
 ghost use Rattle.deck.specs.Reads.{list_of, ListFits};
+ghost use Rattle.eval.specs.Lent.{label_width};
 ghost use Rattle.atoms.specs.Antecedent.{is_rule, holds_atoms};
 ghost use Rattle.build.specs.Building.{Ready, Holds, deck_in, model_of, model_by};
 ghost use Rattle.model.specs.Rounds as spec;
@@ -13,24 +14,24 @@ ghost use Rattle.model.specs.Still.{Stands};
 use crate::still::Still;
 use crate::triggers::{may_add, next_axiom, read_triggers};
 use atoms::antecedent;
-use atoms::labels::label_at;
 use atoms::lists::member;
 use atoms::reasons::{Bound, Reason};
 use atoms::visits::fill_sizes;
 use build::building::{Build, Tripped};
+use build::intern::row;
 use deck::Deck;
 use deck::numbers::{ConceptId, Element};
 use deck::rows::Span;
 
-// The label of element e.
+// The label of element e, as wide as the label in the making: that is quicker to read than the number of the deck's classes.
 #[inline(always)]
 fn label_of<'b>(b: &'b Build<'_, '_>, e: Element) -> &'b [u64]
     requires ready { Ready b.now }
     requires e_lt_elements { e.0 < b.now.tally.elements }
-    ensures { result.now ≡ get_or (model_of b.now).labels e.0 [] }
+    ensures is { result.now ≡ get_or (model_of b.now).labels e.0 [] }
+    ensures wide { length result.now ≡ label_width (deck_in b.now) }
 {
-    let deck = b.plan.deck;
-    label_at(&deck, b.labels, b.tally.elements, e)
+    row(b.labels, e.0, b.tally.elements, b.label.len())
 }
 
 // Does a rule with this antecedent fire at element e?
@@ -170,7 +171,7 @@ fn fire_axiom(b: &mut Build<'_, '_>, sizes: &[u8], axiom: u32, e: Element) -> Re
     }
 }
 
-// All rules at element e: from one axiom that may add something to the next. The table jumps, and what fires has all of b, so that no iterator holds the label.
+// All rules at element e: from one axiom that may add something to the next. No `for`: the table jumps, by a label that no iterator can hold while what fires has all of b.
 fn visit(b: &mut Build<'_, '_>, triggers: &[u32], sizes: &[u8], e: Element) -> Result<(), Tripped>
     requires ready { Ready b.old }
     requires triggers { Triggers (deck_in b.old) triggers.now 0 }

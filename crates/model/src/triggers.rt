@@ -189,7 +189,7 @@ pub fn read_triggers(deck: &Deck, table: &mut [u32])
     }
 }
 
-// The next axiom, from the first on, that may add something at an element of this label.
+// The next axiom, from the first on, that may add something at an element of this label. No `for`: a word may pass over many.
 pub fn next_axiom(label: &[u64], triggers: &[u32], first: u32) -> Option<u32>
     requires steps { Steps triggers.now label.now }
     requires few { length triggers.now ≤ 16384 }

@@ -1,11 +1,11 @@
-use Rattle.std.proofs.Common.{refl, ap, ◌∙◌, length, arith}
+use Rattle.std.proofs.Common.{refl, arith}
 use Rattle.std.proofs.lemmas.Result.{err_from_is_err_and}
 use lib.ListN.{drop_of_length-le}
 use Rattle.deck.proofs.SoundLaws.{limited}
 use Rattle.build.specs.Building.{deck_in}
 use Rattle.build.proofs.BuildingLaws.{walking-start, walking-ready, walking-next, walking-stop, walking-done}
 use Rattle.model.proofs.RoundLaws.{axiom-stuck, visit-in-order}
-use Rattle.model.proofs.TriggerLaws.{label-wide, steps, chain-within, axiom-step, pass-over}
+use Rattle.model.proofs.TriggerLaws.{steps, chain-within, axiom-step, pass-over}
 use Rattle.model.proofs.rounds.visit.Goals as goal
 
 pub loop-axiom-init : goal.loop-axiom-init
@@ -18,9 +18,7 @@ label_of-requires-clause-ready c =
 
 pub next_axiom-requires-clause-steps : goal.next_axiom-requires-clause-steps
 next_axiom-requires-clause-steps c =
-    let W = c.loop-axiom.invariant.1 in
-    let w = label-wide c.loop-axiom.b (walking-ready W c.requires.ready) c.args.e.0 (omega (arith, W.on.built.more, c.requires.e_lt_elements)) in
-    steps c.requires.triggers _ (rw W.same.plan at (ap length c.label_of.ensures ∙ w))
+    steps c.requires.triggers _ (rw c.loop-axiom.invariant.1.same.plan at c.label_of.ensures.wide)
 
 pub next_axiom-requires-clause-few : goal.next_axiom-requires-clause-few
 next_axiom-requires-clause-few c =
@@ -34,7 +32,7 @@ pub returns-in_err-fire_axiom : goal.returns-in_err-fire_axiom
 returns-in_err-fire_axiom c =
     let G = c.loop-axiom.invariant in
     let N = c.in-Some.ensures.some in
-    let W = pass-over c.requires.triggers c.args.e.0 (rw G.1.same.plan at c.label_of.ensures) N.1 G.0 G.1 in
+    let W = pass-over c.requires.triggers c.args.e.0 (rw G.1.same.plan at c.label_of.ensures.is) N.1 G.0 G.1 in
     let z = err_from_is_err_and c.from_residual.result c.from_residual.ensures.1 in
     let q = axiom-step G.1.same c.in-Some.axiom (omega (arith, N.0, c.requires.triggers.wide)) in
     rw (z.1, visit-in-order) (walking-stop W q c.in_err-fire_axiom.ensures (λ x m w. axiom-stuck _ _ _ _ m w x) refl)
@@ -52,12 +50,12 @@ pub loop-axiom-preserved : goal.loop-axiom-preserved
 loop-axiom-preserved c =
     let G = c.loop-axiom.invariant in
     let N = c.in-Some.ensures.some in
-    let W = pass-over c.requires.triggers c.args.e.0 (rw G.1.same.plan at c.label_of.ensures) N.1 G.0 G.1 in
+    let W = pass-over c.requires.triggers c.args.e.0 (rw G.1.same.plan at c.label_of.ensures.is) N.1 G.0 G.1 in
     let q = axiom-step G.1.same c.in-Some.axiom (omega (arith, N.0, c.requires.triggers.wide)) in
     (omega (arith, N.0), walking-next W q c.in_ok-fire_axiom.ensures refl)
 
 pub returns : goal.returns
 returns c =
     let G = c.loop-axiom.invariant in
-    let W = pass-over c.requires.triggers c.args.e.0 (rw G.1.same.plan at c.label_of.ensures) c.in_default.ensures.none G.0 G.1 in
+    let W = pass-over c.requires.triggers c.args.e.0 (rw G.1.same.plan at c.label_of.ensures.is) c.in_default.ensures.none G.0 G.1 in
     rw visit-in-order (walking-done W (drop_of_length-le (deck_in c.args.b.now).axioms (omega (arith, c.requires.triggers.wide))))
