@@ -7,7 +7,7 @@ ghost use Rattle.deck.specs.Reads.{CountRead, AxiomRead};
 use crate::accepted::Deck;
 
 // A tag, 0 to 25, and the three fields that the tag gives a meaning.
-#[derive(Clone, Copy)]
+#[derive(Clone, Copy, Debug, PartialEq, Eq)]
 pub struct AxiomRecord {
     pub tag: u32,
     pub first: u32,

@@ -32,12 +32,7 @@ fn same_axiom(deck: &Deck, a: u32, b: u32) -> bool
     requires b_bound { b < axiom_count (deck_of deck.now.bytes.now) }
     ensures { result ≡ true → axiom_at (deck_of deck.now.bytes.now) a ≡ axiom_at (deck_of deck.now.bytes.now) b }
 {
-    let one = deck.axiom_at(a);
-    let other = deck.axiom_at(b);
-    one.tag == other.tag
-        && one.first == other.first
-        && one.second == other.second
-        && one.third == other.third
+    deck.axiom_at(a) == deck.axiom_at(b)
 }
 
 // The verdict of an axiom: that of the axiom before it, `before`, where there is one and the two are the same.
