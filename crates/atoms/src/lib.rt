@@ -3,7 +3,6 @@
 
 pub mod antecedent;
 pub mod body;
-pub mod bytes;
 pub mod floor;
 pub mod labels;
 pub mod large;

@@ -21,7 +21,7 @@ use Rattle.eval.specs.Lists.{range}
 use Rattle.eval.proofs.Clash.{both_ways}
 use Rattle.build.specs.declared.bounds.Bounds.{Bounds}
 use Rattle.build.specs.declared.tally.Tally.{Tally}
-use Rattle.build.specs.declared.tally.Step.{Step}
+use Rattle.build.specs.Push.{Step}
 use Rattle.atoms.specs.declared.reasons.Reason.{Reason}
 use Rattle.atoms.specs.Walk.{walk}
 use Rattle.atoms.specs.Rows.{rows_of}

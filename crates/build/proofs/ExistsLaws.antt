@@ -27,7 +27,7 @@ use Rattle.eval.proofs.Falling.{below-is}
 use Rattle.eval.proofs.Steps.{each_below}
 use Rattle.build.specs.declared.bounds.Bounds.{Bounds}
 use Rattle.build.specs.declared.tally.Tally.{Tally}
-use Rattle.build.specs.declared.tally.Step.{Step}
+use Rattle.build.specs.Push.{Step}
 use Rattle.atoms.specs.Walk.{walk}
 use Rattle.atoms.specs.Floor.{floored}
 use Rattle.build.specs.Intern.{index_of}

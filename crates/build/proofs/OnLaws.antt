@@ -4,7 +4,7 @@ use Prim.Native.Nat.{ℕ}
 use mathlib.Core.Path.{◌≡◌, refl, ◌∙◌}
 use mathlib.Core.List.{List, [], ◌∷◌}
 use Rattle.build.specs.declared.tally.Tally.{Tally}
-use Rattle.build.specs.declared.tally.Step.{Step}
+use Rattle.build.specs.Push.{Step}
 use Rattle.build.specs.Push.{State, quiet, start, Left, Room}
 use Rattle.atoms.specs.Walk.{walk}
 use Rattle.build.proofs.PushLaws.{left-same, left-trans, left-start, left-quiet, left-tripped}

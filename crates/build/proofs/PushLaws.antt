@@ -17,7 +17,7 @@ use Rattle.eval.specs.Edges.{edge_of, edges_of, row_of, edge_in}
 use Rattle.eval.proofs.EdgeWalks.{edges-length}
 use Rattle.atoms.specs.declared.reasons.Reason.{Reason}
 use Rattle.build.specs.declared.tally.Tally.{Tally}
-use Rattle.build.specs.declared.tally.Step.{Step}
+use Rattle.build.specs.Push.{Step}
 use Rattle.atoms.proofs.ListWalks.{map-append}
 use Rattle.atoms.specs.Reasons.{logged, noted, counted, bound_tripped}
 use Rattle.build.specs.Push.{State, added, push_edge, reached, quiet, start, stored, Room, Left}

@@ -25,7 +25,7 @@ use Rattle.eval.proofs.EdgeWalks.{edges-length}
 use Rattle.eval.proofs.MemoLaws.{blank}
 use Rattle.build.specs.declared.bounds.Bounds.{Bounds}
 use Rattle.build.specs.declared.tally.Tally.{Tally}
-use Rattle.build.specs.declared.tally.Step.{Step}
+use Rattle.build.specs.Push.{Step}
 use Rattle.build.specs.Model.{Model, Buffers, begun, Prepared, Built}
 use Rattle.build.specs.Exists.{reach_body, work}
 use Rattle.build.specs.Quiet.{unchanged, size_of, model_size, LiveModel, word_of, Worded, Known, Quiet, Marked, Kept}

@@ -14,7 +14,7 @@ use Rattle.eval.specs.Edges.{edges_of, is_edge, edge_in}
 use Rattle.eval.proofs.Clash.{clash}
 use Rattle.build.specs.declared.bounds.Bounds.{Bounds}
 use Rattle.build.specs.declared.tally.Tally.{Tally}
-use Rattle.build.specs.declared.tally.Step.{Step}
+use Rattle.build.specs.Push.{Step}
 use Rattle.build.specs.Model.{Model, Buffers, Built}
 use Rattle.build.specs.Push.{leaves_any, Tail}
 use Rattle.build.proofs.PushLaws.{edges-take}

@@ -5,7 +5,7 @@ use Rattle.deck.specs.Content.{deck_of}
 use Rattle.eval.specs.Lent.{label_width}
 use Rattle.atoms.specs.Floor.{floored}
 use Rattle.build.specs.declared.building.Build.{Build}
-use Rattle.build.specs.declared.tally.Step.{Step}
+use Rattle.build.specs.Push.{Step}
 use Rattle.build.specs.Intern.{Placed}
 use Rattle.build.specs.Seed.{Seeded}
 use Rattle.build.specs.Push.{State, start, Room, Left}

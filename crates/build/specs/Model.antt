@@ -6,7 +6,7 @@ use Rattle.eval.specs.Lent.{label_width}
 use Rattle.eval.specs.declared.edges.Edge.{Edge}
 use Rattle.build.specs.declared.bounds.Bounds.{Bounds}
 use Rattle.build.specs.declared.tally.Tally.{Tally}
-use Rattle.build.specs.declared.tally.Step.{Step}
+use Rattle.build.specs.Push.{Step}
 use Rattle.atoms.specs.declared.reasons.Reason.{Reason}
 use Rattle.atoms.specs.Rows.{rows_of}
 use Rattle.build.specs.Intern.{index_of, interned, Held}

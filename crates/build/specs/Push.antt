@@ -5,7 +5,6 @@ use Rattle.eval.specs.Lists.{any}
 use Rattle.eval.specs.declared.edges.Edge.{Edge}
 use Rattle.eval.specs.Edges.{edges_of, row_of, edge_in}
 use Rattle.build.specs.declared.tally.Tally.{Tally}
-use Rattle.build.specs.declared.tally.Step.{Step}
 use Rattle.atoms.specs.Reasons.{bound_tripped, noted, counted}
 
 -- the edges so far, oldest first, the words of the log, the total of reasons, and whether a bound has tripped
@@ -35,6 +34,11 @@ unfoldable pub push_edge : ℕ → Edge → State → State
 push_edge limit e s = cond s.tripped s (cond (edge_in s.edges e.role.0 e.from.0 e.to.0) s (added limit e s))
 
 -- ---- the buffers
+-- the tally after a step, and whether the step tripped a bound
+pub record Step : Type 0 where
+  pub tally : Tally
+  pub tripped : Bool
+
 -- the state that the buffers hold
 abbrev pub reached : List (List ℕ) → List ℕ → Step → State
 reached rows log r = record { edges = edges_of rows r.tally.edges; log = log; reasons = r.tally.reasons; tripped = r.tripped }

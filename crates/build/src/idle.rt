@@ -24,15 +24,6 @@ pub fn goes_on(deck: &Deck, concept: ConceptId) -> bool
     }
 }
 
-// The same over the bytes of an accepted deck: until all crates above take a `Deck`.
-pub fn builds_at(deck: &[u8], concept: ConceptId) -> bool
-    requires accepted { IsAccepted deck.now }
-    requires concept_bound { concept.0 < concept_count (deck_of deck.now) }
-    ensures { result ≡ builds_at (deck_of deck.now) concept.0 }
-{
-    goes_on(&Deck { bytes: deck }, concept)
-}
-
 // Is the walk of concept o from element e known to change nothing while the tally is t?
 pub fn is_idle(deck: &Deck, memo: &[u64], t: Tally, o: ConceptId, e: Element) -> bool
     requires o_bound { o.0 < concept_count (deck_of deck.now.bytes.now) }

@@ -69,27 +69,6 @@ pub fn find_at(
     found
 }
 
-// The same, their number standing for none: until all crates above take an `Option`.
-pub fn find_by(
-    labels: &[u64],
-    elements: u32,
-    label: &[u64],
-    heads: &[u32],
-    links: &[u32],
-    h: usize,
-) -> u32
-    requires label_in_bounds { elements * length label.now ≤ length labels.now }
-    requires chained { Chained (rows_of (length label.now) elements labels.now) heads.now links.now }
-    requires elements_in_bounds { elements ≤ length links.now }
-    requires h_value { (h ≡ slot_of (length heads.now) label.now) × (h < length heads.now) }
-    ensures { result ≡ index_of (rows_of (length label.now) elements labels.now) label.now }
-{
-    match find_at(labels, elements, label, heads, links, h) {
-        Some(e) => e.0,
-        None => elements,
-    }
-}
-
 // A new element becomes the first of its chain.
 pub fn chain(heads: &mut [u32], links: &mut [u32], h: usize, element: u32)
     requires h_in_bounds { h < length heads.old }

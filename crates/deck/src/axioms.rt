@@ -37,19 +37,3 @@ impl Deck<'_> {
         }
     }
 }
-
-// The same over the bytes of an accepted deck.
-pub fn axiom_count(deck: &[u8]) -> u32
-    requires { IsAccepted deck.now }
-    ensures { CountRead (axiom_count (deck_of deck.now)) 16384 result }
-{
-    Deck { bytes: deck }.axiom_count()
-}
-
-pub fn axiom_at(deck: &[u8], axiom: u32) -> AxiomRecord
-    requires accepted { IsAccepted deck.now }
-    requires axiom_bound { «axiom» < axiom_count (deck_of deck.now) }
-    ensures { AxiomRead deck.now «axiom» result }
-{
-    Deck { bytes: deck }.axiom_at(axiom)
-}

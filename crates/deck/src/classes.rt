@@ -38,34 +38,3 @@ impl Deck<'_> {
         self.span(0, class.0 as usize, 1)
     }
 }
-
-// The same over the bytes of an accepted deck.
-pub fn class_count(deck: &[u8]) -> u32
-    requires { IsAccepted deck.now }
-    ensures { CountRead (class_count (deck_of deck.now)) 4096 result }
-{
-    Deck { bytes: deck }.class_count()
-}
-
-pub fn real_count(deck: &[u8]) -> u32
-    requires { IsAccepted deck.now }
-    ensures { CountRead (deck_of deck.now).real (class_count (deck_of deck.now)) result }
-{
-    Deck { bytes: deck }.real_count()
-}
-
-pub fn is_unsatisfiable(deck: &[u8], class: ClassId) -> bool
-    requires accepted { IsAccepted deck.now }
-    requires class_bound { class.0 < class_count (deck_of deck.now) }
-    ensures { result ≡ (class_at (deck_of deck.now) class.0).unsatisfiable }
-{
-    Deck { bytes: deck }.is_unsatisfiable(class)
-}
-
-pub fn subsumers_of(deck: &[u8], class: ClassId) -> Span
-    requires accepted { IsAccepted deck.now }
-    requires class_bound { class.0 < class_count (deck_of deck.now) }
-    ensures { RowRead deck.now (class_count (deck_of deck.now)) (class_at (deck_of deck.now) class.0).row 0 class.0 1 result }
-{
-    Deck { bytes: deck }.subsumers_of(class)
-}

@@ -67,19 +67,3 @@ impl Deck<'_> {
         )
     }
 }
-
-// The same over the bytes of an accepted deck.
-pub fn concept_count(deck: &[u8]) -> u32
-    requires { IsAccepted deck.now }
-    ensures { CountRead (concept_count (deck_of deck.now)) 16384 result }
-{
-    Deck { bytes: deck }.concept_count()
-}
-
-pub fn concept_at(deck: &[u8], concept: ConceptId) -> ConceptExpr
-    requires accepted { IsAccepted deck.now }
-    requires concept_bound { concept.0 < concept_count (deck_of deck.now) }
-    ensures { ConceptRead deck.now concept.0 result }
-{
-    Deck { bytes: deck }.concept_at(concept)
-}

@@ -43,26 +43,3 @@ impl Deck<'_> {
         self.parts().trailer().word(2)
     }
 }
-
-// The same over the bytes of an accepted deck.
-pub fn fact_count(deck: &[u8]) -> u32
-    requires { IsAccepted deck.now }
-    ensures { CountRead (fact_count (deck_of deck.now)) 16384 result }
-{
-    Deck { bytes: deck }.fact_count()
-}
-
-pub fn fact_at(deck: &[u8], fact: u32) -> FactRecord
-    requires accepted { IsAccepted deck.now }
-    requires fact_bound { fact < fact_count (deck_of deck.now) }
-    ensures { FactRead deck.now fact result }
-{
-    Deck { bytes: deck }.fact_at(fact)
-}
-
-pub fn dropped_count(deck: &[u8]) -> u32
-    requires { IsAccepted deck.now }
-    ensures { result ≡ (deck_of deck.now).dropped }
-{
-    Deck { bytes: deck }.dropped_count()
-}

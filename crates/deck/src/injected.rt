@@ -43,13 +43,3 @@ impl Deck<'_> {
         None
     }
 }
-
-// The same over the bytes of an accepted deck.
-pub fn injected_class(deck: &[u8], y: ClassId, r: RoleId) -> Option<ClassId>
-    requires accepted { IsAccepted deck.now }
-    requires y_bound { y.0 < class_count (deck_of deck.now) }
-    requires r_bound { r.0 < role_count (deck_of deck.now) }
-    ensures { InjectedRead (deck_of deck.now) y.0 r.0 result }
-{
-    Deck { bytes: deck }.injected_class(y, r)
-}

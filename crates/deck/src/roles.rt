@@ -32,27 +32,3 @@ impl Deck<'_> {
         self.span(1, role.0 as usize, 2)
     }
 }
-
-// The same over the bytes of an accepted deck.
-pub fn role_count(deck: &[u8]) -> u32
-    requires { IsAccepted deck.now }
-    ensures { CountRead (role_count (deck_of deck.now)) 1024 result }
-{
-    Deck { bytes: deck }.role_count()
-}
-
-pub fn sub_roles(deck: &[u8], role: RoleId) -> Span
-    requires accepted { IsAccepted deck.now }
-    requires role_bound { role.0 < role_count (deck_of deck.now) }
-    ensures { RowRead deck.now (role_count (deck_of deck.now)) (role_at (deck_of deck.now) role.0).sub_roles 1 role.0 0 result }
-{
-    Deck { bytes: deck }.sub_roles(role)
-}
-
-pub fn range_of(deck: &[u8], role: RoleId) -> Span
-    requires accepted { IsAccepted deck.now }
-    requires role_bound { role.0 < role_count (deck_of deck.now) }
-    ensures { RowRead deck.now (class_count (deck_of deck.now)) (role_at (deck_of deck.now) role.0).range 1 role.0 2 result }
-{
-    Deck { bytes: deck }.range_of(role)
-}

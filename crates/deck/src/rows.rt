@@ -120,22 +120,3 @@ impl Deck<'_> {
             .find(row.start as usize, row.count as usize, x as usize)
     }
 }
-
-// The same over the bytes of an accepted deck.
-pub fn item(deck: &[u8], list: Span, i: u32) -> u32
-    requires accepted { IsAccepted deck.now }
-    requires within { Within deck.now list }
-    requires i_lt_count { i < list.count }
-    ensures { result ≡ get_or (list_of deck.now list) i 0 }
-{
-    Deck { bytes: deck }.item(list, i)
-}
-
-pub fn row_has(deck: &[u8], row: Span, x: u32) -> bool
-    requires accepted { IsAccepted deck.now }
-    requires within { Within deck.now row }
-    requires rises { Rises (list_of deck.now row) }
-    ensures { result ≡ has (list_of deck.now row) x }
-{
-    Deck { bytes: deck }.row_has(row, x)
-}

@@ -14,9 +14,6 @@ use crate::judgement::Judgement;
 use crate::lent::Lent;
 use crate::shape::Shape;
 use crate::verdict::Verdict;
-use deck::axioms::axiom_count;
-use deck::check_deck;
-use deck::concepts::concept_count;
 use deck::numbers::{ConceptId, Element};
 use deck::refusal::Refusal;
 

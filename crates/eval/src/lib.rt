@@ -2,7 +2,6 @@
 #![tactic(auto)]
 
 pub mod axioms;
-pub mod bytes;
 mod chains;
 mod classes;
 mod concepts;

@@ -17,7 +17,7 @@ use Rattle.deck.specs.Content.{deck_of}
 use Rattle.eval.specs.Lent.{label_width}
 use Rattle.build.specs.declared.bounds.Bounds.{Bounds}
 use Rattle.build.specs.declared.tally.Tally.{Tally}
-use Rattle.build.specs.declared.tally.Step.{Step}
+use Rattle.build.specs.Push.{Step}
 use Rattle.atoms.specs.declared.target_label.Target.{Target}
 use Rattle.atoms.specs.Label.{label_has, insert_bit}
 use Rattle.build.specs.Push.{quiet}

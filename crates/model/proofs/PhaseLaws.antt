@@ -21,7 +21,7 @@ use Rattle.build.specs.declared.bounds.Bounds.{Bounds}
 use Rattle.build.specs.declared.building.Build.{Build}
 use Rattle.build.specs.declared.plan.Plan.{Plan}
 use Rattle.build.specs.declared.tally.Tally.{Tally}
-use Rattle.build.specs.declared.tally.Step.{Step}
+use Rattle.build.specs.Push.{Step}
 use Rattle.atoms.specs.Rows.{put, flat}
 use Rattle.build.specs.Intern.{Held}
 use Rattle.atoms.specs.Floor.{floor_label}

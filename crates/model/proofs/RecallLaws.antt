@@ -16,7 +16,7 @@ use Rattle.deck.proofs.CaseLaws.{lt-or-le}
 use Rattle.eval.specs.Lent.{label_width}
 use Rattle.build.specs.declared.bounds.Bounds.{Bounds}
 use Rattle.build.specs.declared.tally.Tally.{Tally}
-use Rattle.build.specs.declared.tally.Step.{Step}
+use Rattle.build.specs.Push.{Step}
 use Rattle.atoms.specs.Label.{same_label, label_of}
 use Rattle.atoms.specs.Rows.{rows_of}
 use Rattle.build.specs.Intern.{index_of, interned}

@@ -16,7 +16,7 @@ use Rattle.deck.specs.Content.{deck_of}
 use Rattle.eval.proofs.Clash.{clash}
 use Rattle.build.specs.declared.bounds.Bounds.{Bounds}
 use Rattle.build.specs.declared.tally.Tally.{Tally}
-use Rattle.build.specs.declared.tally.Step.{Step}
+use Rattle.build.specs.Push.{Step}
 use Rattle.model.specs.declared.still.Still.{Still}
 use Rattle.model.specs.declared.still.Still.TheVariants.{Unknown, Others, All}
 use Rattle.build.specs.Model.{Model, Buffers, begun, Prepared, Built}
