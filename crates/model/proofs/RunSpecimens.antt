@@ -19,7 +19,6 @@ use Rattle.eval.specs.Verdict.{verdict, scan}
 use Rattle.eval.proofs.Specimens.{W, E}
 use Rattle.build.specs.declared.bounds.Bounds.{Bounds}
 use Rattle.model.specs.declared.outcome.Outcome.TheVariants.{Confirmed}
-use Rattle.model.specs.Run.{RunAnswer}
 use Rattle.atoms.specs.Rows.{put, flat}
 use Rattle.model.specs.Outcome.{outcome_of}
 use Rattle.model.specs.Run.{ran, judged, accepted}

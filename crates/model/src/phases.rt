@@ -14,7 +14,7 @@ ghost use Rattle.model.specs.Rounds.{expand_from_axioms};
 ghost use Rattle.build.specs.Seed.{Seeded};
 
 use crate::closing::close_chains_and_transitivity;
-use crate::expand::expand;
+use crate::expand::expand_lent as expand;
 use crate::rounds::expand_from_axioms;
 use atoms::bytes::compute_top_floor;
 use atoms::reasons::{Reason, note};
