@@ -1,7 +1,7 @@
 // How the target of a class by a role is labelled.
 ghost use Rattle.std.specs.Prelude.{◌≡◌, length, map, ◌<◌};
 ghost use Rattle.deck.specs.Accepted.{content};
-ghost use Rattle.deck.specs.Deck.{class_count, class_at, role_count, role_at, has};
+ghost use Rattle.deck.specs.Deck.{class_count, role_count, has};
 ghost use Rattle.deck.specs.Reads.{list_of, Within, RealClass};
 ghost use Rattle.deck.specs.Sound.{Rises};
 ghost use Rattle.eval.specs.Lists.{every};

@@ -1,24 +1,18 @@
 // Building out a consequent from an element.
 ghost use Rattle.std.specs.Prelude.{◌≡◌, ◌<◌, ◌≤◌, is_err, IfOk, OnOk};
-ghost use Rattle.deck.specs.Content.{deck_of};
 ghost use Rattle.deck.specs.Deck.{role_count, concept_count};
 ghost use Rattle.deck.specs.Reads.{list_of, ListFits};
 ghost use Rattle.build.specs.Intern.{index_of};
 ghost use Rattle.atoms.specs.Walk.{walk};
 ghost use Rattle.build.specs.Exists as spec;
 ghost use Rattle.build.specs.Building.{Ready, Holds, deck_in, model_of, model_by};
-ghost use Rattle.build.specs.Model.{lent, begun, Prepared, Built};
 ghost use Rattle.build.specs.Quiet.{Quiet};
 
-use crate::bounds::Bounds;
 use crate::building::{Build, Tripped};
 use crate::idle::is_idle;
-use crate::plan::Plan;
 use crate::quiet::keep_quiet;
-use crate::tally::{Step, Tally};
 use atoms::body::body_label_known;
 use atoms::visits::is_short;
-use deck::Deck;
 use deck::concepts::ConceptExpr;
 use deck::numbers::{ConceptId, Element, RoleId};
 use deck::rows::Span;

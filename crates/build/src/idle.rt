@@ -1,6 +1,6 @@
 // Consequents that add nothing: by their form, or as the table of quiet walks tells.
 ghost use Rattle.std.specs.Prelude.{◌≡◌, true, ◌<◌};
-ghost use Rattle.deck.specs.Content.{IsAccepted, deck_of};
+ghost use Rattle.deck.specs.Content.{deck_of};
 ghost use Rattle.deck.specs.Deck.{concept_count};
 ghost use Rattle.build.specs.Exists.{builds_at};
 ghost use Rattle.build.specs.Quiet.{Skipped};

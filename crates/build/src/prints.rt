@@ -2,7 +2,7 @@
 // first of each chain, `links` one more than the next after each element. 0 is none, so that a table of zeros, in fixed memory, is an empty one.
 ghost use Rattle.std.specs.Prelude.{◌≡◌, ◌+◌, ◌*◌, ◌<◌, ◌≤◌, length, get_or, set};
 ghost use Rattle.atoms.specs.Rows.{rows_of};
-ghost use Rattle.build.specs.Intern.{index_of, interned, Found};
+ghost use Rattle.build.specs.Intern.{interned, Found};
 ghost use Rattle.build.specs.Building.{HasPlace, Interns, label_in, model_of};
 ghost use Rattle.build.specs.Prints.{mixed, print_to, slot_of, Chained};
 

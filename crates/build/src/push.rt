@@ -2,11 +2,10 @@
 ghost use Rattle.std.specs.Prelude.{◌≡◌, ◌<◌, ◌≤◌, length, set, is_err};
 ghost use Rattle.eval.specs.Edges.{row_of, edges_of, edge_in};
 ghost use Rattle.build.specs.Push.{Tail};
-ghost use Rattle.build.specs.Push.{Left, Room, added, push_edge, start};
+ghost use Rattle.build.specs.Push.{added, push_edge};
 ghost use Rattle.build.specs.Building.{HasRoom, Same, Pushed, state_of};
 
 use crate::building::{Build, Tripped};
-use crate::tally::{Step, Tally};
 use atoms::reasons::{Bound, Reason, note};
 use eval::edges::{Edge, edge_at};
 

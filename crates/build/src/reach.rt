@@ -1,21 +1,12 @@
 // A label is interned, and the edge to its element added: what both expansions do with a target.
 ghost use Rattle.std.specs.Prelude.{◌≡◌, is_err, IfOk};
-ghost use Rattle.deck.specs.Content.{deck_of};
-ghost use Rattle.eval.specs.Lent.{label_width};
-ghost use Rattle.atoms.specs.Rows.{rows_of};
 ghost use Rattle.build.specs.Intern.{index_of};
 ghost use Rattle.build.specs.Push.{Tail, edge};
-ghost use Rattle.atoms.specs.Floor.{floored};
 ghost use Rattle.build.specs.Model as spec;
-ghost use Rattle.build.specs.Model.{lent, begun, Prepared, Built};
 ghost use Rattle.build.specs.Building.{HasRoom, Ready, Pushed, Holds, label_in, model_of, state_of};
 
-use crate::bounds::Bounds;
 use crate::building::{Build, Tripped};
-use crate::plan::Plan;
-use crate::tally::{Step, Tally};
 use atoms::reasons::{Bound, Reason};
-use deck::Deck;
 use deck::numbers::{Element, RoleId};
 use eval::edges::Edge;
 

@@ -1,19 +1,15 @@
 // Seeding: the elements of the satisfiable classes.
-ghost use Rattle.std.specs.Prelude.{◌≡◌, ◌+◌, ◌*◌, ◌<◌, ◌≤◌, length};
+ghost use Rattle.std.specs.Prelude.{◌≡◌, ◌<◌, ◌≤◌, length};
 ghost use mathlib.Core.List.{[], flat_map};
-ghost use Rattle.deck.specs.Content.{IsAccepted, deck_of};
+ghost use Rattle.deck.specs.Content.{deck_of};
 ghost use Rattle.deck.specs.Deck.{class_count, fact_count, fact_at};
-ghost use Rattle.eval.specs.Lent.{label_width};
 ghost use Rattle.atoms.specs.Label.{insert_all, label_of};
 ghost use Rattle.build.specs.Intern.{interned};
 ghost use Rattle.build.specs.Prints.{Chained};
-ghost use Rattle.build.specs.Seed.{ends_of, Named, is_seeded, row_label, Seeded};
+ghost use Rattle.build.specs.Seed.{ends_of, Named, is_seeded, row_label};
 ghost use Rattle.build.specs.Building.{HasPlace, Interns, Unseeded, Seeds, deck_in, model_of};
 
-use crate::bounds::Bounds;
 use crate::building::Build;
-use crate::plan::Plan;
-use crate::tally::Tally;
 use atoms::labels;
 use atoms::subsumers::load_row;
 use deck::Deck;

@@ -1,5 +1,5 @@
 // Answers as numbers and words.
-ghost use Rattle.std.specs.Prelude.{◌≡◌, [], ◌∷◌, ◌≤◌, length};
+ghost use Rattle.std.specs.Prelude.{◌≡◌, ◌≤◌, length};
 ghost use Rattle.deck.specs.Refusal.{word_told};
 ghost use Rattle.capi.specs.Words.{told, given, deck_number, deck_word, judgement_words, judgement_told, verdict_told, outcome_number, summary_told};
 

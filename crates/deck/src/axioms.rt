@@ -1,6 +1,6 @@
 // Axioms, by their records.
 ghost use Rattle.std.specs.Prelude.{◌<◌};
-ghost use Rattle.deck.specs.Content.{IsAccepted, deck_of};
+ghost use Rattle.deck.specs.Content.{deck_of};
 ghost use Rattle.deck.specs.Deck.{axiom_count};
 ghost use Rattle.deck.specs.Reads.{CountRead, AxiomRead};
 

@@ -1,6 +1,6 @@
 // Classes: how many, which are unsatisfiable, and their rows.
 ghost use Rattle.std.specs.Prelude.{◌≡◌, ◌<◌};
-ghost use Rattle.deck.specs.Content.{IsAccepted, deck_of};
+ghost use Rattle.deck.specs.Content.{deck_of};
 ghost use Rattle.deck.specs.Deck.{class_count, class_at};
 ghost use Rattle.deck.specs.Reads.{CountRead, RowRead};
 

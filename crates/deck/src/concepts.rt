@@ -1,6 +1,6 @@
 // Concepts, by their records.
 ghost use Rattle.std.specs.Prelude.{◌≡◌, ◌<◌};
-ghost use Rattle.deck.specs.Content.{IsAccepted, deck_of};
+ghost use Rattle.deck.specs.Content.{deck_of};
 ghost use Rattle.deck.specs.Deck.{concept_count};
 ghost use Rattle.deck.specs.Exprs.{expr_at};
 ghost use Rattle.deck.specs.Reads.{CountRead, ConceptRead};

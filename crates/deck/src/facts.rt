@@ -1,6 +1,6 @@
 // Facts, and how many axioms were dropped.
 ghost use Rattle.std.specs.Prelude.{◌≡◌, ◌<◌};
-ghost use Rattle.deck.specs.Content.{IsAccepted, deck_of};
+ghost use Rattle.deck.specs.Content.{deck_of};
 ghost use Rattle.deck.specs.Deck.{fact_count};
 ghost use Rattle.deck.specs.Reads.{CountRead, FactRead};
 

@@ -1,6 +1,6 @@
 // The injected class of a class and a role.
 ghost use Rattle.std.specs.Prelude.{◌≡◌, ◌+◌, ◌*◌, ◌<◌};
-ghost use Rattle.deck.specs.Content.{IsAccepted, deck_of};
+ghost use Rattle.deck.specs.Content.{deck_of};
 ghost use Rattle.deck.specs.Deck.{class_count, role_count, injected_class};
 ghost use Rattle.deck.specs.Trailer.{part_count};
 ghost use Rattle.deck.specs.Reads.{InjectedRead, injected_key};

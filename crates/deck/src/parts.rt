@@ -1,5 +1,5 @@
 // The words of the records of the parts, in a deck that has passed the tests 1 to 4.
-ghost use Rattle.std.specs.Prelude.{◌≡◌, ◌+◌, ◌*◌, ◌<◌, ◌≤◌, length};
+ghost use Rattle.std.specs.Prelude.{◌≡◌, ◌+◌, ◌*◌, ◌<◌};
 ghost use Rattle.deck.specs.Answer.{Framed};
 ghost use Rattle.deck.specs.Trailer.{part_count, width_of, real_of};
 ghost use Rattle.deck.specs.Parts.{part_place, part_word, list_word};

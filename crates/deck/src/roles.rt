@@ -1,6 +1,6 @@
 // Roles: how many, their sub-role rows and their range rows.
-ghost use Rattle.std.specs.Prelude.{◌≡◌, ◌<◌};
-ghost use Rattle.deck.specs.Content.{IsAccepted, deck_of};
+ghost use Rattle.std.specs.Prelude.{◌<◌};
+ghost use Rattle.deck.specs.Content.{deck_of};
 ghost use Rattle.deck.specs.Deck.{class_count, role_count, role_at};
 ghost use Rattle.deck.specs.Reads.{CountRead, RowRead};
 

@@ -3,7 +3,6 @@ ghost use Rattle.std.specs.Prelude.{◌≡◌, ◌+◌, ◌<◌, ◌≤◌, true
 ghost use Rattle.deck.specs.Trailer.{part_count, width_of};
 ghost use Rattle.deck.specs.Rows.{row_below, row_shape, row_rises, row_has};
 ghost use Rattle.deck.specs.Deck.{has};
-ghost use Rattle.deck.specs.Content.{IsAccepted};
 ghost use Rattle.deck.specs.Sound.{Rises};
 ghost use Rattle.deck.specs.Reads.{list_of, span_at, Within};
 

@@ -1,6 +1,6 @@
 // The trailer of 18 words at a deck's end, and the layout that it gives.
 ghost use Rattle.std.specs.Prelude.{◌≡◌, ◌+◌, ◌*◌, ◌<◌, ◌≤◌, length};
-ghost use Rattle.deck.specs.Word.{word_at, trailer_at, trailer_word};
+ghost use Rattle.deck.specs.Word.{trailer_word};
 ghost use Rattle.deck.specs.Trailer.{limit_of, width_of, part_count, part_start, words_before, counts_fit, starts_fit, layout_fits};
 
 use crate::words;

@@ -1,7 +1,7 @@
 // What judging works with besides the structure: an index of its edges and a table of judgements, on the stack, in two sizes.
 ghost use Rattle.std.specs.Prelude.{◌&&◌, ◌≡◌, ◌*◌, ◌<◌, ltb};
 ghost use Rattle.deck.specs.Deck.{concept_count, axiom_count, axiom_at};
-ghost use Rattle.eval.specs.Equipped.{Blank, Room};
+ghost use Rattle.eval.specs.Equipped.{Room};
 ghost use Rattle.eval.specs.InLent.{deck_in, structure};
 ghost use Rattle.eval.specs.Judge.{judge};
 ghost use Rattle.eval.specs.Justified.{Justified};

@@ -1,7 +1,7 @@
 -- The edges that a turn of expanding adds all leave its element, so older edges need not be looked at.
 --     classes-apart                         a turn of e adds no edge from another element
 --     Since                                 edges leave elements that are taken
-use Prim.Native.Nat.{ℕ, suc, ◌-◌, ◌/◌, ◌<◌}
+use Prim.Native.Nat.{ℕ, ◌/◌, ◌<◌}
 use mathlib.Core.Path.{◌≡◌, refl, sym, ap, ◌∙◌}
 use mathlib.Core.Bool.{Bool, true, false, cond}
 use mathlib.Core.List.{List, [], ◌∷◌, ◌++◌}
@@ -23,12 +23,12 @@ use Rattle.atoms.specs.Reasons.{bound_tripped, run_delta}
 use Rattle.atoms.specs.Target.{target_of}
 use Rattle.build.specs.Push.{State, edge, added, push_edge, leaves_any, Tail}
 use Rattle.build.specs.Model.{Model, note_in, trip_state, reach}
-use Rattle.model.specs.Expand.{highest, link_target, work_fact, fact_step, work_facts, class_step, work_classes}
+use Rattle.model.specs.Expand.{link_target, work_fact, fact_step, work_facts, class_step, work_classes}
 use Rattle.build.proofs.TailLaws.{or-both, any_append, tail_none}
 use Rattle.build.proofs.InternLaws.{by_cond}
 use Rattle.atoms.proofs.WalkLaws.{walk-keeps}
 use Rattle.atoms.proofs.MemberLaws.{has-insert}
-use Rattle.model.proofs.ExpandLaws.{facts-in-order, highest-is}
+use Rattle.model.proofs.ExpandLaws.{facts-in-order}
 
 -- ---- a turn of e adds no edge from x
 module _ (x : ℕ) where
@@ -91,11 +91,7 @@ since-next {first} {es} {taken} S D floor B e m p h {next} q {es'} p' = record {
         ap (λ (l : List Edge). leaves_any l x) (sym p')
         ∙ classes-apart x D floor B e (eqb-false e x o.1) m (ap (λ (l : List Edge). leaves_any l x) p ∙ S.told z x o.0)
 
--- the element of a turn is not taken
-pub next-untaken : (taken : List ℕ) (n m : ℕ) → n ≡ highest taken m → (n ≡ 0 → ⊥) → label_has taken (n - 1) ≡ false
-next-untaken taken n m q z = let y : n ≡ suc (n - 1) = omega (arith, z) in (highest-is taken m (n - 1) (sym q ∙ y)).1
-
--- so its turn begins after all edges
+-- the element of a turn is not taken, so its turn begins after all edges
 pub since-tail : {first : ℕ} {rows : List (List ℕ)} {count : ℕ} {taken : List ℕ} → Since first (edges_of rows count) taken → (e : ℕ) → label_has taken e ≡ false → {since : ℕ} → since ≡ cond (eqb first 0) count 0 → Tail rows count since e
 since-tail {first} {rows} {count} {taken} S e w {since} q = rw q (by (eqb first 0) refl)
   where

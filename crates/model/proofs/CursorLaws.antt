@@ -1,5 +1,5 @@
 -- Where the search for the highest element not taken begins: what it need not look at again.
-use Prim.Native.Nat.{ℕ, zero, suc, ◌-◌, ◌/◌, ◌<◌, ◌≤◌}
+use Prim.Native.Nat.{ℕ, zero, suc, ◌/◌, ◌<◌, ◌≤◌}
 use mathlib.Core.Path.{◌≡◌, refl, sym, ap, ◌∙◌, subst}
 use mathlib.Core.Bool.{Bool, true, false, cond, or-true}
 use mathlib.Core.List.{List}
@@ -37,20 +37,17 @@ highest-after taken (suc n) e b h = by (label_has taken n) refl (λ q. highest-a
         subst (λ (k : ℕ). cond (label_has (insert_bit taken e) k) (highest (insert_bit taken e) k) (suc k) ≡ highest (insert_bit taken e) e) s (cond-true (label_has (insert_bit taken e) e) _ (suc e) (has-own taken e b))
 
 -- where the next search begins: at the last element taken, or above the elements that were added
-pub highest-resume : (taken : List ℕ) (n before after : ℕ) → (n - 1) / 64 < length taken → n ≡ highest taken before → (n ≡ 0 → ⊥) → {now : List ℕ} → now ≡ insert_bit taken (n - 1)
-    → {from : ℕ} → from ≡ cond (eqb before after) (n - 1) after → highest now from ≡ highest now after
-highest-resume taken n before after b q z {now} e {from} p =
-    ap (highest now) p ∙ ap (λ (l : List ℕ). highest l (cond (eqb before after) (n - 1) after)) e ∙ by (eqb before after) refl ∙ ap (λ (l : List ℕ). highest l after) (sym e)
+pub highest-resume : (taken : List ℕ) (e before after : ℕ) → e / 64 < length taken → highest taken before ≡ suc e → {now : List ℕ} → now ≡ insert_bit taken e → {from : ℕ} → from ≡ cond (eqb before after) e after → highest now from ≡ highest now after
+highest-resume taken e before after b q {now} p {from} r =
+    ap (highest now) r ∙ ap (λ (l : List ℕ). highest l (cond (eqb before after) e after)) p ∙ by (eqb before after) refl ∙ ap (λ (l : List ℕ). highest l after) (sym p)
   where
-    by : (t : Bool) → eqb before after ≡ t → highest (insert_bit taken (n - 1)) (cond t (n - 1) after) ≡ highest (insert_bit taken (n - 1)) after
-    by true w =
-        let y : n ≡ suc (n - 1) = omega (arith, z) in
-        sym (highest-after taken before (n - 1) b (sym q ∙ y)) ∙ ap (highest (insert_bit taken (n - 1))) (eqb-true before after w)
+    by : (t : Bool) → eqb before after ≡ t → highest (insert_bit taken e) (cond t e after) ≡ highest (insert_bit taken e) after
+    by true w = sym (highest-after taken before e b q) ∙ ap (highest (insert_bit taken e)) (eqb-true before after w)
     by false w = refl
 
-pub resume-below : (n before after : ℕ) → n - 1 < before → before ≤ after → {from : ℕ} → from ≡ cond (eqb before after) (n - 1) after → from ≤ after
-resume-below n before after h l q = rw q (by (eqb before after))
+pub resume-below : (e before after : ℕ) → e < before → before ≤ after → {from : ℕ} → from ≡ cond (eqb before after) e after → from ≤ after
+resume-below e before after h l q = rw q (by (eqb before after))
   where
-    by : (t : Bool) → cond t (n - 1) after ≤ after
+    by : (t : Bool) → cond t e after ≤ after
     by true = omega (arith, h, l)
     by false = omega arith

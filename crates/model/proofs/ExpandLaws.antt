@@ -1,8 +1,12 @@
 -- Expanding by the facts: case by case, and turn by turn.
---     link-row, link-delta, link-none       a target, by how it is labelled
---     fact-other, fact-own, class-yes, class-no
+--     fact-other, fact-own, fact-links, class-yes, class-no
 --     Taking                               the loop: the bound on the number of turns is never what ends it
-use Prim.Native.Nat.{ℕ, zero, suc, ◌+◌, ◌-◌, ◌/◌, ◌<◌, ◌≤◌}
+use Rattle.build.specs.declared.building.Build.{Build}
+use Rattle.build.specs.declared.plan.Plan.{Plan}
+use Rattle.build.specs.Building.{Ready, Holds, deck_in, buffers, model_of, model_by}
+use Rattle.build.proofs.BuildingLaws.{holds-same, holds-is, holds-trans, holds-start, ready-after}
+use Rattle.atoms.proofs.LabelLaws.{length-insert}
+use Prim.Native.Nat.{ℕ, zero, suc, ◌+◌, ◌-◌, ◌*◌, ◌/◌, ◌<◌, ◌≤◌}
 use mathlib.Core.Path.{◌≡◌, refl, sym, ap, ◌∙◌, subst}
 use mathlib.Core.Bool.{Bool, true, false, cond, or-true, or-false}
 use mathlib.Core.List.{List, []}
@@ -16,20 +20,17 @@ use Rattle.deck.specs.Deck.{Deck, Fact}
 use Rattle.deck.specs.Content.{deck_of}
 use Rattle.eval.specs.Lent.{label_width}
 use Rattle.build.specs.declared.bounds.Bounds.{Bounds}
-use Rattle.build.specs.declared.tally.Tally.{Tally}
-use Rattle.build.specs.Push.{Step}
 use Rattle.atoms.specs.declared.target_label.Target.{Target}
 use Rattle.atoms.specs.Label.{label_has, insert_bit}
-use Rattle.build.specs.Push.{quiet}
 use Rattle.atoms.specs.Target.{target_of}
-use Rattle.build.specs.Model.{Model, Buffers, begun, Built, Prepared}
+use Rattle.build.specs.Model.{Model, begun}
 use Rattle.model.specs.Expand.{link_target, work_fact, fact_step, work_facts, class_step, work_classes, highest, next_turn, turns, expand_in}
 use Rattle.atoms.proofs.MemberLaws.{has-insert, none_has}
 use Rattle.atoms.proofs.RowLaws.{length-rows}
 use Rattle.atoms.specs.Walk.{walk}
 use Rattle.build.proofs.SeedLaws.{no_fact}
 use Rattle.atoms.proofs.WalkLaws.{walk-fixed, walk-placed}
-use Rattle.build.proofs.BuildLaws.{built-is, built-same, built-trans, built-start, built-quiet, built-tripped}
+use Rattle.build.proofs.BuildLaws.{built-quiet, built-tripped}
 
 cond-true : {A : Type 0} (b : Bool) (x y : A) → b ≡ true → cond b x y ≡ x
 cond-true true x y h = refl
@@ -53,10 +54,14 @@ module _ (D : Deck) (floor : List ℕ) (B : Bounds) (e : ℕ) where
   unfolding fact_step
   fact-other k f m n = rw (ne_eqb f.from k n)
 
-  pub fact-own : (k : ℕ) (f g : Fact) (m : Model) → m.state.tripped ≡ false → g ≡ f → g.from ≡ k → {target : Target} → target ≡ target_of D g.to g.role
-      → link_target D floor B e g.to g.role target m ≡ fact_step D floor B e k f m
-  unfolding fact_step work_fact
-  fact-own k f g m w q h p = rw (p, ← q) (sym (cond-true (eqb g.from k) _ m (eq-eqb g.from k h) ∙ cond-false m.state.tripped m _ w))
+  pub fact-own : (k : ℕ) (f : Fact) (m : Model) → f.from ≡ k → fact_step D floor B e k f m ≡ work_fact D floor B e f m
+  unfolding fact_step
+  fact-own k f m h = rw (eq-eqb f.from k h)
+
+  -- its edge, as its target is labelled
+  pub fact-links : (f g : Fact) (m : Model) → m.state.tripped ≡ false → g ≡ f → {target : Target} → target ≡ target_of D g.to g.role → link_target D floor B e g.to g.role target m ≡ work_fact D floor B e f m
+  unfolding work_fact
+  fact-links f g m w q p = rw (p, ← q) (sym (cond-false m.state.tripped m _ w))
 
   -- ---- a class
   pub facts-in-order : (k : ℕ) (m : Model) → work_facts D floor B e k m ≡ walk (fact_step D floor B e k) D.facts m
@@ -159,55 +164,72 @@ module _ (D : Deck) (floor : List ℕ) (B : Bounds) (taken : List ℕ) (m : Mode
   unfolding turns next_turn
   turns_next f e t h = cond-false m.state.tripped m _ t ∙ rw h
 
--- the turns have come to where `taken` are taken, whatever surplus d of turns there is
-pub record Taking (D : Deck) (floor : List ℕ) (B : Bounds) (b : Buffers) (t : Tally) (b₁ : Buffers) (l₁ : List ℕ) (held : Tally) (taken : List ℕ) : Type 0 where
-  pub built : Built D B b t b₁ l₁ (quiet held) (begun D b₁ held)
+-- the turns have come from a to b, where `taken` are taken, whatever surplus d of turns there is
+pub record Taking (a b : Build) (taken : List ℕ) : Type 0 where
+  pub held : Holds a b false (model_by a b)
   pub size : length taken ≡ 1024
-  pub goes : (d : ℕ) → expand_in D floor B (65536 + d) (begun D b t) ≡ turns D floor B (untaken taken 65536 + d) taken (begun D b₁ held)
+  pub goes : (d : ℕ) → expand_in (deck_in a) a.plan.floor.now a.plan.bounds (65536 + d) (model_of a) ≡ turns (deck_in a) a.plan.floor.now a.plan.bounds (untaken taken 65536 + d) taken (model_by a b)
 
-pub taking-start : {s : List ℕ} {B : Bounds} {b : Buffers} {t : Tally} {floor label : List ℕ} → Prepared s B b t floor label → {taken : List ℕ} → taken ≡ replicate 1024 0 → Taking (deck_of s) floor B b t b label t taken
-taking-start {s} {B} {b} {t} {floor} P {taken} e = record {
-  built = built-same P;
+pub taking-start : {a : Build} → Ready a → {taken : List ℕ} → taken ≡ replicate 1024 0 → Taking a a taken
+taking-start P {taken} e = record {
+  held = holds-same P;
   size = ap length e ∙ length-replicate {A = ℕ} 1024 0;
   goes = λ d. rw (e, untaken-none 1024 65536);
 }
 
-module _ {D : Deck} {floor : List ℕ} {B : Bounds} {b : Buffers} {t : Tally} {b₁ : Buffers} {l₁ : List ℕ} {held : Tally} {taken : List ℕ} (G : Taking D floor B b t b₁ l₁ held taken) where
-  pub taking-done : {n : ℕ} → n ≡ highest taken held.elements → n ≡ 0 → (d : ℕ) → Built D B b t b₁ l₁ (quiet held) (expand_in D floor B (65536 + d) (begun D b t))
-  taking-done q z d =
-      built-is G.built
-      (sym (G.goes d ∙ turns-none D floor B taken (begun D b₁ held) (untaken taken 65536 + d) (ap (highest taken) (length-rows (label_width D) held.elements b₁.labels) ∙ sym q ∙ z)))
+module _ {a b : Build} {taken : List ℕ} (P : Ready a) (T : Taking a b taken) where
+  pub taking-ready : Ready b
+  taking-ready = ready-after P T.held
 
-  module _ (n : ℕ) (q : n ≡ highest taken held.elements) (z : n ≡ 0 → ⊥) where
-    one_up : highest taken held.elements ≡ suc (n - 1)
-    one_up = let y : n ≡ suc (n - 1) = omega (arith, z) in sym q ∙ y
+  pub taking-fits : b.tally.elements ≤ length taken * 64
+  taking-fits = omega (arith, T.size, taking-ready.few, taking-ready.most)
 
+  count : (n : ℕ) → highest taken b.tally.elements ≡ n → highest taken (length (model_by a b).labels) ≡ n
+  count n q = ap (highest taken) (length-rows (label_width (deck_in a)) b.tally.elements b.labels.now) ∙ q
+
+  pub taking-done : highest taken b.tally.elements ≡ 0 → (d : ℕ) → Holds a b false (expand_in (deck_in a) a.plan.floor.now a.plan.bounds (65536 + d) (model_of a))
+  taking-done z d = holds-is T.held (sym (T.goes d ∙ turns-none (deck_in a) a.plan.floor.now a.plan.bounds taken (model_by a b) (untaken taken 65536 + d) (count 0 z)))
+
+  module _ (e : ℕ) (q : highest taken b.tally.elements ≡ suc e) where
     -- the element that is taken is one of them
-    pub taking-below : n - 1 < held.elements
-    taking-below = (highest-is taken held.elements (n - 1) one_up).0
+    pub taking-below : e < b.tally.elements
+    taking-below = (highest-is taken b.tally.elements e q).0
 
-    module _ (small : held.elements ≤ 65536) where
-      fewer : untaken taken 65536 ≡ suc (untaken (insert_bit taken (n - 1)) 65536)
-      fewer = untaken-take taken (n - 1) 65536 (omega (arith, taking-below)) (omega (arith, taking-below, G.size)) (highest-is taken held.elements (n - 1) one_up).1
+    pub taking-new : label_has taken e ≡ false
+    taking-new = (highest-is taken b.tally.elements e q).1
 
-      pub taking-less : {now : List ℕ} → now ≡ insert_bit taken (n - 1) → untaken now 65536 < untaken taken 65536
-      taking-less e = rw e (omega (arith, fewer))
+    pub taking-place : e / 64 < length taken
+    taking-place = omega (arith, taking-below, T.size, taking-ready.few, taking-ready.most)
 
-      step : (d : ℕ) → expand_in D floor B (65536 + d) (begun D b t) ≡ turns D floor B (untaken (insert_bit taken (n - 1)) 65536 + d) (insert_bit taken (n - 1)) (work_classes D floor B (n - 1) (begun D b₁ held))
-      step d =
-          let y : untaken taken 65536 + d ≡ suc (untaken (insert_bit taken (n - 1)) 65536 + d) = omega (arith, fewer) in
-          G.goes d ∙ ap (λ f. turns D floor B f taken (begun D b₁ held)) y
-          ∙ turns_next D floor B taken (begun D b₁ held) (untaken (insert_bit taken (n - 1)) 65536 + d) (n - 1) refl (ap (highest taken) (length-rows (label_width D) held.elements b₁.labels) ∙ one_up)
+    fewer : untaken taken 65536 ≡ suc (untaken (insert_bit taken e) 65536)
+    fewer = untaken-take taken e 65536 (omega (arith, taking-below, taking-ready.few, taking-ready.most)) taking-place taking-new
 
-      module _ {b₂ : Buffers} {l₂ : List ℕ} {r : Step} (X : Built D B b₁ held b₂ l₂ r (work_classes D floor B (n - 1) (begun D b₁ held))) where
-        pub taking-stop : r.tripped ≡ true → (d : ℕ) → Built D B b t b₂ l₂ r (expand_in D floor B (65536 + d) (begun D b t))
-        taking-stop w d =
-            built-is (built-trans G.built X)
-            (sym (step d ∙ turns-tripped D floor B (insert_bit taken (n - 1)) (work_classes D floor B (n - 1) (begun D b₁ held)) (untaken (insert_bit taken (n - 1)) 65536 + d) (built-tripped X ∙ w)))
+    pub taking-less : {now : List ℕ} → now ≡ insert_bit taken e → untaken now 65536 < untaken taken 65536
+    taking-less p = rw p (omega (arith, fewer))
 
-        pub taking-next : r.tripped ≡ false → {now : List ℕ} → now ≡ insert_bit taken (n - 1) → length now ≡ 1024 → Taking D floor B b t b₂ l₂ r.tally now
-        taking-next w e k = record {
-          built = built-quiet (built-trans G.built X) w;
-          size = k;
-          goes = λ d. rw e (step d ∙ ap (turns D floor B (untaken (insert_bit taken (n - 1)) 65536 + d) (insert_bit taken (n - 1))) (sym (built-start X w)));
+    step : (d : ℕ) → expand_in (deck_in a) a.plan.floor.now a.plan.bounds (65536 + d) (model_of a)
+        ≡ turns (deck_in a) a.plan.floor.now a.plan.bounds (untaken (insert_bit taken e) 65536 + d) (insert_bit taken e) (work_classes (deck_in a) a.plan.floor.now a.plan.bounds e (model_by a b))
+    step d =
+        let y : untaken taken 65536 + d ≡ suc (untaken (insert_bit taken e) 65536 + d) = omega (arith, fewer) in
+        T.goes d ∙ ap (λ f. turns (deck_in a) a.plan.floor.now a.plan.bounds f taken (model_by a b)) y
+        ∙ turns_next (deck_in a) a.plan.floor.now a.plan.bounds taken (model_by a b) (untaken (insert_bit taken e) 65536 + d) e refl (count (suc e) q)
+
+    module _ {c : Build} {r : Bool} (H : Holds b c r (work_classes (deck_in b) b.plan.floor.now b.plan.bounds e (model_of b))) where
+      turned : Holds a c r (work_classes (deck_in a) a.plan.floor.now a.plan.bounds e (model_by a b))
+      turned =
+          holds-trans T.held
+          (holds-is H (ap (λ (p : Plan). work_classes (deck_of p.deck.bytes.now) p.floor.now p.bounds e (begun (deck_of p.deck.bytes.now) (buffers b) b.tally)) T.held.same.plan))
+
+      pub taking-stop : r ≡ true → (d : ℕ) → Holds a c r (expand_in (deck_in a) a.plan.floor.now a.plan.bounds (65536 + d) (model_of a))
+      taking-stop w d =
+          holds-is turned
+          (sym (step d ∙ turns-tripped (deck_in a) a.plan.floor.now a.plan.bounds (insert_bit taken e) (work_classes (deck_in a) a.plan.floor.now a.plan.bounds e (model_by a b)) (untaken (insert_bit taken e) 65536 + d) (built-tripped turned.built ∙ w)))
+
+    pub taking-next : {c : Build} → Holds b c false (work_classes (deck_in b) b.plan.floor.now b.plan.bounds e (model_of b)) → {now : List ℕ} → now ≡ insert_bit taken e → Taking a c now
+    taking-next H p =
+        let X = turned H in
+        record {
+          held = record { same = X.same; built = built-quiet X.built refl };
+          size = ap length p ∙ length-insert taken e ∙ T.size;
+          goes = λ d. rw p (step d ∙ ap (turns (deck_in a) a.plan.floor.now a.plan.bounds (untaken (insert_bit taken e) 65536 + d) (insert_bit taken e)) (sym (holds-start X)));
         }

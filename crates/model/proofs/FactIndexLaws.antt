@@ -1,9 +1,18 @@
 -- The tables of expanding by the facts: filling them, and going by them.
---     next-none, next-is           a walk over the facts goes from one of a class to the next
+--     comes, fact-turn, facts-walk  a walk over the facts of a class goes from one to the next
 --     indexed-start, indexed-step  the facts by class
 --     marked_start, marked_step    the classes with a fact
 --     class-passed                 a class that e has not, or that no fact is of, changes nothing
 --     turns-idle                   without a fact no turn changes anything
+use Rattle.build.specs.declared.plan.Plan.{Plan}
+use Rattle.deck.specs.Content.{deck_of}
+use Rattle.std.specs.Option.{ForSome}
+use Rattle.std.specs.Prelude.{Option, Some, None, IfSome}
+use mathlib.Core.List.{Memᴰ as Member}
+use Rattle.model.specs.FactIndex.{entry_of, FactOf}
+use Rattle.model.specs.FactWalk.{facts_from, facts_at}
+use Rattle.eval.proofs.ListLaws.{member-at, in-keep, in-range}
+use Rattle.eval.specs.Lists.{keep}
 use Prim.Native.Nat.{ℕ, zero, suc, ◌+◌, ◌-◌, ◌/◌, ◌<◌, ◌≤◌}
 use mathlib.Core.Path.{◌≡◌, refl, sym, ap, ◌∙◌, subst}
 use mathlib.Core.Bool.{Bool, true, false, cond, ◌||◌, ◌&&◌, or-true}
@@ -19,18 +28,16 @@ use borrow.Author.Tests.{eq-eqb, ne_eqb, eqb-true, eqb-false}
 use Rattle.deck.specs.Deck.{Deck, Fact, class_count, fact_count, fact_at}
 use Rattle.eval.specs.Lists.{range}
 use Rattle.eval.proofs.Clash.{clash}
-use Rattle.eval.proofs.Walks.{list-step, range-end}
+use Rattle.eval.proofs.Walks.{list-step, range-end, range-step}
 use Rattle.build.specs.declared.bounds.Bounds.{Bounds}
 use Rattle.atoms.specs.Walk.{walk}
 use Rattle.atoms.specs.Label.{label_has, insert_bit}
-use Rattle.build.specs.declared.tally.Tally.{Tally}
-use Rattle.build.specs.Model.{Model, Buffers, begun}
+use Rattle.build.specs.Model.{Model}
 use Rattle.model.specs.Expand.{fact_step, work_facts, class_step, work_classes, highest, next_turn, turns}
 use Rattle.model.specs.FactIndex.{next_fact, Indexed, Marked}
 use Rattle.build.proofs.SeedLaws.{no_fact}
-use Rattle.atoms.proofs.WalkLaws.{walk-fixed, walk_step, walk_end}
+use Rattle.atoms.proofs.WalkLaws.{walk-fixed}
 use Rattle.model.proofs.SkipLaws.{range-skip}
-use Rattle.build.proofs.BuildLaws.{OnModel}
 use Rattle.atoms.proofs.MemberLaws.{by_cases, has-insert, none_has}
 use Rattle.model.proofs.ExpandLaws.{fact-other, class-yes, class-no}
 
@@ -43,93 +50,72 @@ next-step : (k i : ℕ) (l : List Fact) → i < length l → next_fact k i (drop
 unfolding next_fact
 next-step k i l h = rw (list-step no_fact l i h, add-one i)
 
--- the walk goes on at p, which is of class k
-pub record NextIs {S : Type 0} (f : Fact → S → S) (l : List Fact) (k i p : ℕ) (s : S) : Type 0 where
-  pub on : i ≤ p
-  pub below : p < length l
-  pub own : (get_or l p no_fact).from ≡ k
-  pub goes : walk f (drop i l) s ≡ walk f (drop p l) s
+-- ---- the facts of a class, by their numbers
+module _ (D : Deck) (k : ℕ) where
+  pub facts-step : (i : ℕ) → i < fact_count D → facts_from D k i ≡ cond (eqb (fact_at D i).from k) (i ∷ facts_from D k (i + 1)) (facts_from D k (i + 1))
+  unfolding keep
+  facts-step i h = rw (range-step i (fact_count D) h)
 
-module _ {S : Type 0} (f : Fact → S → S) (l : List Fact) (k : ℕ) (s : S) (idle : (x : Fact) → (x.from ≡ k → ⊥) → f x s ≡ s) where
-  over : (i : ℕ) → i < length l → ((get_or l i no_fact).from ≡ k → ⊥) → walk f (drop i l) s ≡ walk f (drop (i + 1) l) s
-  over i h n = walk_step no_fact f l i s h (sym (idle (get_or l i no_fact) n))
+  facts-end : (i : ℕ) → fact_count D ≤ i → facts_from D k i ≡ []
+  unfolding keep
+  facts-end i h = rw (range-end i (fact_count D) h)
 
-  none-by : (d i : ℕ) → i + d ≡ length l → next_fact k i (drop i l) ≡ 0 → walk f (drop i l) s ≡ s
-  none-by zero i e q = sym (walk_end no_fact f l i s (omega (arith, e)))
-  none-by (suc d) i e q = by (eqb (get_or l i no_fact).from k) refl (none-by d (i + 1) (omega (arith, e))) (sym (next-step k i l b) ∙ q)
+  -- one that comes next from i on, if one does
+  abbrev Comes : ℕ → Option ℕ → Type 0
+  Comes i r = (facts_at D k r ≡ facts_from D k i) × IfSome r (FactOf D k)
+
+  comes-by : (d i : ℕ) → i + d ≡ fact_count D → (r : Option ℕ) → entry_of r ≡ next_fact k i (drop i D.facts) → Comes i r
+  comes-by zero i e None q = (sym (facts-end i (omega (arith, e))), tt)
+  comes-by zero i e (Some j) q = absurd (omega (arith, q, next-end k i D.facts (omega (arith, e))))
+  comes-by (suc d) i e r q = by (eqb (fact_at D i).from k) refl (comes-by d (i + 1) (omega (arith, e))) (q ∙ next-step k i D.facts b)
     where
-      b : i < length l
+      b : i < fact_count D
       b = omega (arith, e)
 
-      by : (t : Bool) → eqb (get_or l i no_fact).from k ≡ t → (next_fact k (i + 1) (drop (i + 1) l) ≡ 0 → walk f (drop (i + 1) l) s ≡ s) → cond t (suc i) (next_fact k (i + 1) (drop (i + 1) l)) ≡ 0 → walk f (drop i l) s ≡ s
-      by true w g q' = absurd (omega (arith, q'))
-      by false w g q' = over i b (eqb-false _ _ w) ∙ g q'
+      here : eqb (fact_at D i).from k ≡ true → (o : Option ℕ) → entry_of o ≡ suc i → Comes i o
+      here w None q' = absurd (omega (arith, q'))
+      here w (Some j) q' = let z : i ≡ j = omega (arith, q') in subst (λ (n : ℕ). Comes i (Some n)) z (refl, record { below = b; own = eqb-true _ _ w })
 
-  pub next-none : (i : ℕ) → i ≤ length l → {n : ℕ} → n ≡ next_fact k i (drop i l) → n ≡ 0 → walk f (drop i l) s ≡ s
-  next-none i h q z = none-by (length l - i) i (omega (arith, h)) (sym q ∙ z)
+      by : (t : Bool) → eqb (fact_at D i).from k ≡ t → ((o : Option ℕ) → entry_of o ≡ next_fact k (i + 1) (drop (i + 1) D.facts) → Comes (i + 1) o) → entry_of r ≡ cond t (suc i) (next_fact k (i + 1) (drop (i + 1) D.facts)) → Comes i r
+      by true w g q' = here w r q'
+      by false w g q' = let G = g r q' in (G.0 ∙ sym (facts-step i b ∙ rw w), G.1)
 
-  is-by : (d i p : ℕ) → i + d ≡ length l → next_fact k i (drop i l) ≡ suc p → NextIs f l k i p s
-  is-by zero i p e q = absurd (omega (arith, q, next-end k i l (omega (arith, e))))
-  is-by (suc d) i p e q = by (eqb (get_or l i no_fact).from k) refl (is-by d (i + 1) p (omega (arith, e))) (sym (next-step k i l b) ∙ q)
-    where
-      b : i < length l
-      b = omega (arith, e)
+  pub comes : (i : ℕ) → i ≤ fact_count D → (r : Option ℕ) → entry_of r ≡ next_fact k i (drop i D.facts) → (facts_at D k r ≡ facts_from D k i) × ForSome r (FactOf D k)
+  comes i h r q = let C = comes-by (fact_count D - i) i (omega (arith, h)) r q in (C.0, λ x p. rw p at C.1)
 
-      by : (t : Bool) → eqb (get_or l i no_fact).from k ≡ t → (next_fact k (i + 1) (drop (i + 1) l) ≡ suc p → NextIs f l k (i + 1) p s) → cond t (suc i) (next_fact k (i + 1) (drop (i + 1) l)) ≡ suc p → NextIs f l k i p s
-      by true w g q' = let z : i ≡ p = omega (arith, q') in subst (λ (j : ℕ). NextIs f l k i j s) z (record { on = omega arith; below = b; own = eqb-true _ _ w; goes = refl })
-      by false w g q' = let N = g q' in record { on = omega (arith, N.on); below = N.below; own = N.own; goes = over i b (eqb-false _ _ w) ∙ N.goes }
+  -- one, and what the table says comes after it
+  pub after-fact : {words : List ℕ} → Indexed D 0 words → (i : ℕ) → FactOf D k i → (classes : ℕ) → classes ≡ class_count D → (r : Option ℕ) → get_or words (classes + i) 0 ≡ entry_of r → (facts_from D k i ≡ i ∷ facts_at D k r) × ForSome r (FactOf D k)
+  after-fact {words} X i F classes c r q =
+      let C = comes (i + 1) (omega (arith, F.below)) r (sym q ∙ ap (λ (n : ℕ). get_or words (n + i) 0) c ∙ X.links i (omega arith) F.below ∙ ap (λ (y : ℕ). next_fact y (i + 1) (drop (i + 1) D.facts)) F.own) in
+      (facts-step i F.below ∙ rw (eq-eqb (fact_at D i).from k F.own) (ap (λ (l : List ℕ). i ∷ l) (sym C.0)), C.1)
 
-  pub next-is : (i : ℕ) → i ≤ length l → {n : ℕ} → n ≡ next_fact k i (drop i l) → (n ≡ 0 → ⊥) → NextIs f l k i (n - 1) s
-  next-is i h {n} q z = let y : n ≡ suc (n - 1) = omega (arith, z) in is-by (length l - i) i (n - 1) (omega (arith, h)) (sym q ∙ y)
+  -- one that was given
+  pub fact-turn : (n x : ℕ) → n < length (facts_from D k 0) → get_or (facts_from D k 0) n x ≡ x → (drop n (facts_from D k 0) ≡ x ∷ drop (n + 1) (facts_from D k 0)) × FactOf D k x
+  fact-turn n x h e =
+      let m : Member x (facts_from D k 0) = rw e at (member-at x (facts_from D k 0) n h) in
+      let i = in-keep (λ f. eqb (fact_at D f).from k) (range 0 (fact_count D - 0)) x m in
+      (rw e at (list-step x (facts_from D k 0) n h), record { below = omega (arith, (in-range 0 (fact_count D - 0) x i.0).1); own = eqb-true _ _ i.1 })
 
--- ---- the loop over the facts of a class: i is one more than the fact that it is at, or 0 at the end
-abbrev pub rest_facts : ℕ → List Fact → List Fact
-rest_facts zero l = []
-rest_facts (suc p) l = drop p l
+-- a step that changes nothing where a test fails
+walk-keep : {S : Type 0} (p : ℕ → Bool) (f : ℕ → S → S) → ((x : ℕ) → p x ≡ false → (s : S) → f x s ≡ s) → (l : List ℕ) (s : S) → walk f (keep p l) s ≡ walk f l s
+unfolding keep walk
+walk-keep p f idle [] s = refl
+walk-keep {S} p f idle (x ∷ xs) s = by (p x) refl (λ t. walk-keep p f idle xs t)
+  where
+    by : (b : Bool) → p x ≡ b → ((t : S) → walk f (keep p xs) t ≡ walk f xs t) → walk f (cond b (x ∷ keep p xs) (keep p xs)) s ≡ walk f xs (f x s)
+    by true w g = g (f x s)
+    by false w g = g s ∙ ap (walk f xs) (sym (idle x w s))
 
-abbrev pub left_facts : ℕ → ℕ → ℕ
-left_facts n zero = zero
-left_facts n (suc p) = n - p
+-- the walk over all facts is that over those of the class
+abbrev pub facts_of : ℕ → ℕ → Plan → ℕ → Model → Model
+facts_of e k p i = fact_step (deck_of p.deck.bytes.now) p.floor.now p.bounds e k (fact_at (deck_of p.deck.bytes.now) i)
 
-pub record Going {S : Type 0} (f : Fact → S → S) (l : List Fact) (k i n : ℕ) (s : S) : Type 0 where
-  pub most : n ≤ length l
-  pub on : 0 < n → i < n
-  pub own : 0 < n → (get_or l (n - 1) no_fact).from ≡ k
-  pub goes : walk f (drop i l) s ≡ walk f (rest_facts n l) s
-
-pub going : {S : Type 0} (f : Fact → S → S) (l : List Fact) (k : ℕ) (s : S) → ((x : Fact) → (x.from ≡ k → ⊥) → f x s ≡ s) → (i : ℕ) → i ≤ length l → (n : ℕ) → n ≡ next_fact k i (drop i l) → Going f l k i n s
-unfolding walk
-going f l k s idle i h zero q = record { most = omega arith; on = λ z. absurd (omega (arith, z)); own = λ z. absurd (omega (arith, z)); goes = next-none f l k s idle i h q refl }
-going f l k s idle i h (suc p) q =
-    let y : suc p - 1 ≡ p = omega arith in
-    let N : NextIs f l k i p s = rw y at (next-is f l k s idle i h q (λ z. omega (arith, z))) in
-    record { most = omega (arith, N.below); on = λ z. omega (arith, N.on); own = λ z. rw y N.own; goes = N.goes }
-
-pub rest_some : (i : ℕ) (l : List Fact) → 0 < i → i ≤ length l → rest_facts i l ≡ get_or l (i - 1) no_fact ∷ drop (i - 1 + 1) l
-rest_some zero l h b = absurd (omega (arith, h))
-rest_some (suc p) l h b = let y : suc p - 1 ≡ p = omega arith in rw y (list-step no_fact l p (omega (arith, b)))
-
-pub rest-none : (i : ℕ) (l : List Fact) → i ≡ 0 → rest_facts i l ≡ []
-rest-none i l e = ap (λ (n : ℕ). rest_facts n l) e
-
-pub left_less : (n i j : ℕ) → 0 < i → i ≤ n → j ≤ n → (0 < j → i < j) → left_facts n j < left_facts n i
-left_less n zero j h b c o = absurd (omega (arith, h))
-left_less n (suc p) zero h b c o = omega (arith, b)
-left_less n (suc p) (suc r) h b c o = omega (arith, b, c, o (omega arith))
-
--- from one step of the walk to the next fact of the class
-pub facts-going : (D : Deck) (floor : List ℕ) (B : Bounds) (e k i n : ℕ) {b : Buffers} {t : Tally} {b₁ : Buffers} {l₁ : List ℕ} {held : Tally}
-    → OnModel D B (fact_step D floor B e k) D.facts (drop i D.facts) b t b₁ l₁ held → i ≤ fact_count D → n ≡ next_fact k i (drop i D.facts)
-    → Going (fact_step D floor B e k) D.facts k i n (begun D b₁ held) × OnModel D B (fact_step D floor B e k) D.facts (rest_facts n D.facts) b t b₁ l₁ held
-facts-going D floor B e k i n {b₁ = b₁} {held = held} G h q =
-    let X = going (fact_step D floor B e k) D.facts k (begun D b₁ held) (λ x o. fact-other D floor B e k x (begun D b₁ held) o) i h n q in
-    (X, record { built = G.built; goes = G.goes ∙ X.goes })
-
--- the next of a fact of class k
-pub link-next : (D : Deck) {index : List ℕ} → Indexed D 0 index → (k i : ℕ) → 0 < i → i ≤ fact_count D → (fact_at D (i - 1)).from ≡ k → (classes n : ℕ) → classes ≡ class_count D → n ≡ get_or index (classes + (i - 1)) 0
-    → n ≡ next_fact k (i - 1 + 1) (drop (i - 1 + 1) D.facts)
-link-next D {index} X k i h b o classes n c q =
-    q ∙ ap (λ (y : ℕ). get_or index (y + (i - 1)) 0) c ∙ X.links (i - 1) (omega arith) (omega (arith, h, b)) ∙ ap (λ (y : ℕ). next_fact y (i - 1 + 1) (drop (i - 1 + 1) D.facts)) o
+pub facts-walk : (p : Plan) (e k : ℕ) (m : Model) → walk (facts_of e k p) (facts_from (deck_of p.deck.bytes.now) k 0) m ≡ work_facts (deck_of p.deck.bytes.now) p.floor.now p.bounds e k m
+unfolding work_facts
+facts-walk p e k m =
+    let D = deck_of p.deck.bytes.now in
+    let z : fact_count D - 0 ≡ fact_count D = omega arith in
+    rw z (walk-keep (λ f. eqb (fact_at D f).from k) (facts_of e k p) (λ i w s. fact-other D p.floor.now p.bounds e k (fact_at D i) s (eqb-false _ _ w)) (range 0 (fact_count D)) m)
 
 -- ---- the facts by class, from the last down
 pub indexed-start : (D : Deck) {index : List ℕ} → ((k : ℕ) → get_or index k 0 ≡ 0) → {n : ℕ} → n ≡ fact_count D → Indexed D n index
@@ -172,20 +158,13 @@ module _ {D : Deck} {index : List ℕ} (i : ℕ) (X : Indexed D (i + 1) index) (
           (λ (g : i < j). get_or-set_other index at (class_count D + j) (get_or index k₀ 0) 0 (λ e. omega (arith, e, g)) ∙ X.links j (omega (arith, g)) b)
           (eq-or-lt_of_le l)
 
--- a fact put before the first of its class
-pub put-before : (index : List ℕ) (at k v : ℕ) {first : ℕ} {mid out : List ℕ} → first ≡ get_or index k 0 → mid ≡ set index at first → out ≡ set mid k v → out ≡ set (set index at (get_or index k 0)) k v
-put-before index at k v p q r = r ∙ ap (λ (l : List ℕ). set l k v) (q ∙ ap (set index at) p)
-
--- the loop's step, and its end
+-- the loop's step
 pub indexed-down : (D : Deck) {index : List ℕ} (i : ℕ) → 0 < i → i ≤ fact_count D → Indexed D i index → class_count D + fact_count D ≤ length index → (classes k : ℕ) → classes ≡ class_count D → k ≡ (fact_at D (i - 1)).from → k < class_count D
     → {next : List ℕ} → next ≡ set (set index (classes + (i - 1)) (get_or index k 0)) k (i - 1 + 1) → Indexed D (i - 1) next
 indexed-down D {index} i h b X room classes k c o f q =
     let y : i ≡ i - 1 + 1 = omega (arith, h) in
     indexed-step (i - 1) (subst (λ (n : ℕ). Indexed D n index) y X) (omega (arith, h, b)) (subst (λ (n : ℕ). n < class_count D) o f) room
     (q ∙ ap (λ (n : ℕ). set (set index (n + (i - 1)) (get_or index k 0)) k (i - 1 + 1)) c ∙ ap (λ (n : ℕ). set (set index (class_count D + (i - 1)) (get_or index n 0)) n (i - 1 + 1)) o)
-
-pub indexed-done : (D : Deck) {index : List ℕ} {i : ℕ} → Indexed D i index → i ≡ 0 → Indexed D 0 index
-indexed-done D {index} X e = subst (λ (n : ℕ). Indexed D n index) e X
 
 -- ---- the classes with a fact
 pub marked_start : (D : Deck) (mask : List ℕ) → Marked D 0 mask

@@ -2,6 +2,21 @@
 --     recalled-start, recalled-same     no class, the same labels
 --     recalled-reach, recalled-row      a row interned, a row found
 --     recall-link                       the edge to a remembered element
+use lib.ListN.{drop, length-drop}
+use lib.Seq.{length-take-le}
+use native.Mathlib.Nat.{suc-mul, mul-le-mul_right}
+use Prim.Native.Nat.{◌*◌}
+use Rattle.build.specs.Prints.{Chained, slot_of}
+use Rattle.build.proofs.PrintLaws.{chained_more}
+use Rattle.atoms.proofs.RowLaws.{rows_at, rows_more}
+use Rattle.atoms.specs.Rows.{row_at}
+use Rattle.build.specs.declared.building.Build.{Build}
+use Rattle.build.specs.Building.{Ready, Holds, Pushed, deck_in, state_of, model_of}
+use Rattle.build.specs.Push.{State}
+use Rattle.build.specs.Model.{linked}
+use Rattle.build.proofs.BuildLaws.{reach-linked}
+use denote.Ref.{MutBor}
+use Rattle.model.specs.Recall.{Recalls}
 use Prim.Native.Nat.{ℕ, zero, suc, ◌+◌, ◌-◌, ◌<◌, ◌≤◌}
 use mathlib.Core.Path.{◌≡◌, refl, sym, ap, ◌∙◌, subst}
 use mathlib.Core.Bool.{Bool, true, false, cond}
@@ -22,15 +37,15 @@ use Rattle.atoms.specs.Rows.{rows_of}
 use Rattle.build.specs.Intern.{index_of, interned}
 use Rattle.atoms.specs.Floor.{floored}
 use Rattle.build.specs.Seed.{row_label}
-use Rattle.build.specs.Push.{edge, push_edge, start, Left}
-use Rattle.build.specs.Model.{Model, Buffers, lent, begun, Prepared, Built, reach}
+use Rattle.build.specs.Push.{edge}
+use Rattle.build.specs.Model.{Model, Buffers, begun, Prepared, Built, reach}
 use Rattle.model.specs.FactIndex.{Recalled}
 use Rattle.atoms.proofs.LabelLaws.{same_refl}
 use Rattle.atoms.proofs.MemberLaws.{by_cases, zero_word}
 use Rattle.atoms.proofs.RowLaws.{length-rows}
 use Rattle.build.proofs.InternLaws.{interned-known, interned-new, index-le, placed-known, held_rows}
 use Rattle.build.proofs.SeedLaws.{length-row-label}
-use Rattle.build.proofs.BuildLaws.{all_fit, reach-link}
+use Rattle.build.proofs.BuildLaws.{all_fit}
 
 -- ---- places of labels
 index-append : (ls more : List (List ℕ)) (l : List ℕ) → index_of ls l < length ls → index_of (ls ++ more) l ≡ index_of ls l
@@ -111,15 +126,12 @@ recalled-found : {D : Deck} {floor : List ℕ} {ls : List (List ℕ)} {known : L
     → el < length ls → {next : List ℕ} → next ≡ set known k (el + 1) → Recalled D floor ls next
 recalled-found {D} {floor} {ls} R k el h p b e = recalled-reach R k el h p (sym (interned-known ls (row_label D floor k) (omega (arith, p, b)))) e
 
--- the same, found in the buffer by a label that was loaded and took the floor in
-pub recalled-row : {D : Deck} {floor known : List ℕ} (n : ℕ) (buf : List ℕ) → Recalled D floor (rows_of (label_width D) n buf) known → (k el : ℕ) (loaded label : List ℕ) → k < class_count D
-    → loaded ≡ label_of (label_width D) (class_at D k).row → label ≡ floored D floor loaded → el ≡ index_of (rows_of (length label) n buf) label → el < n
-    → {next : List ℕ} → next ≡ set known k (el + 1) → Recalled D floor (rows_of (label_width D) n buf) next
+-- the same, by a label that was loaded and took the floor in
+pub recalled-row : {D : Deck} {floor : List ℕ} {ls : List (List ℕ)} {known : List ℕ} → Recalled D floor ls known → (k el : ℕ) (loaded label : List ℕ) → k < class_count D
+    → loaded ≡ label_of (label_width D) (class_at D k).row → label ≡ floored D floor loaded → (el ≡ index_of ls label) × (el < length ls)
+    → {next : List ℕ} → next ≡ set known k (el + 1) → Recalled D floor ls next
 unfolding row_label
-recalled-row {D} {floor} n buf R k el loaded label h q p at b e =
-    let y : label ≡ row_label D floor k = p ∙ ap (floored D floor) q in
-    let w : length label ≡ label_width D = ap length y ∙ length-row-label D floor k in
-    recalled-found R k el h (at ∙ ap (λ (m : ℕ). index_of (rows_of m n buf) label) w ∙ ap (index_of (rows_of (label_width D) n buf)) y) (omega (arith, b, length-rows (label_width D) n buf)) e
+recalled-row {D} {floor} {ls} R k el loaded label h q p at e = recalled-found R k el h (at.0 ∙ ap (index_of ls) (p ∙ ap (floored D floor) q)) at.1 e
 
 -- the labels that a step leaves
 built-rows : {D : Deck} {B : Bounds} {b : Buffers} {t : Tally} {b' : Buffers} {l : List ℕ} {r : Step} {m : Model} → Built D B b t b' l r m → rows_of (label_width D) r.tally.elements b'.labels ≡ m.labels
@@ -130,20 +142,36 @@ pub reach-rows : {D : Deck} {B : Bounds} {b : Buffers} {t : Tally} {b' : Buffers
 unfolding reach
 reach-rows X q x row e = built-rows X ∙ ap (λ (k : Model). k.labels) e
 
--- ---- the edge to a remembered element, within the element bound
-pub recall-link : {s : List ℕ} {B : Bounds} {b : Buffers} {t : Tally} {floor label known : List ℕ} → Prepared s B b t floor label → Recalled (deck_of s) floor (rows_of (label_width (deck_of s)) t.elements b.labels) known
-    → (r x k n : ℕ) → n ≡ get_or known k 0 → (n ≡ 0 → ⊥) → t.elements ≤ B.max_elements → {E' : List (List ℕ)} {log' : List ℕ} {z : Step}
-    → Left B.max_edges b.edges b.log t E' log' z (push_edge B.max_edges (edge r x (n - 1)) (start b.edges b.log t))
-    → Built (deck_of s) B b t (lent b.labels E' log') label z (reach B r x (row_label (deck_of s) floor k) (begun (deck_of s) b t))
-recall-link {s} {B} {b} {t} {floor} {label} {known} P R r x k n q z h L =
-    let D = deck_of s in
-    let ls = rows_of (label_width D) t.elements b.labels in
-    let z' : get_or known k 0 ≡ 0 → ⊥ = λ y. z (q ∙ y) in
-    let at : n - 1 ≡ index_of ls (row_label D floor k) = ap (λ (i : ℕ). i - 1) q ∙ sym (R.place k z') in
-    let I = placed-known (label_width D) t.elements b.labels (row_label D floor k) (all_fit P) (n - 1) at (omega (arith, q, R.below k z', length-rows (label_width D) t.elements b.labels)) in
-    reach-link P (length-row-label D floor k) I P.label-wide r x h L
+-- ---- the edge to a remembered element
+pub recall-link : {a c : Build} {r : Bool} {known : List ℕ} → Ready a → Recalls a a known → (role x k n : ℕ) → get_or known k 0 ≡ suc n → Pushed a c r (linked a.plan.bounds a.tally.elements (edge role x n) (state_of a))
+    → Holds a c r (reach a.plan.bounds role x (row_label (deck_in a) a.plan.floor.now k) (model_of a))
+recall-link {a} {known = known} P R role x k n q L =
+    let D = deck_in a in
+    let l = row_label D a.plan.floor.now k in
+    let z : get_or known k 0 ≡ 0 → ⊥ = λ y. omega (arith, y, q) in
+    let at : n ≡ index_of (model_of a).labels l = omega (arith, q, R.place k z) in
+    let I = placed-known (label_width D) a.tally.elements a.labels.now l (all_fit P) n at (omega (arith, q, R.below k z, length-rows (label_width D) a.tally.elements a.labels.now)) in
+    record { same = L.same; built = rw (L.label, L.labels) (reach-linked P (length-row-label D a.plan.floor.now k) I P.label-wide role x L.left) }
+
+-- what a step that adds edges and reasons alone leaves
+pub recalls-pushed : {a c : Build} {r : Bool} {s : State} {known : List ℕ} → Recalls a a known → Pushed a c r s → Recalls a c known
+recalls-pushed {a} {c} R L =
+    recalled-same R
+    (ap (λ (n : ℕ). rows_of (label_width (deck_in a)) n a.labels.now) (sym L.left.elements) ∙ ap (λ (w : MutBor (List ℕ)). rows_of (label_width (deck_in a)) c.tally.elements w.now) (sym L.labels))
 
 -- an element's number is small
 pub place-small : {s : List ℕ} {B : Bounds} {b : Buffers} {t : Tally} {floor label : List ℕ} → Prepared s B b t floor label → (l : List ℕ) {el : ℕ} → el ≡ index_of (rows_of (label_width (deck_of s)) t.elements b.labels) l → el < 65536
 place-small {s} {b = b} {t = t} P l e =
     omega (arith, e, index-le (rows_of (label_width (deck_of s)) t.elements b.labels) l, length-rows (label_width (deck_of s)) t.elements b.labels, P.few, P.most)
+
+-- ---- rows of the buffer
+pub row-length : (w n e : ℕ) (buf : List ℕ) → n * w ≤ length buf → e < n → length (get_or (rows_of w n buf) e []) ≡ w
+row-length w n e buf h b =
+    ap length (rows_at w n buf e b) ∙ length-take-le w (drop (e * w) buf) (omega (arith, length-drop (e * w) buf, suc-mul e w, mul-le-mul_right {m = suc e} {n = n} w (omega (arith, b)), h))
+
+-- the labels of all elements by their slots: one more
+pub chained-label : (w n e : ℕ) (buf : List ℕ) {heads links : List ℕ} → Chained (rows_of w e buf) heads links → e < n → {label : List ℕ} → label ≡ get_or (rows_of w n buf) e [] → (h : ℕ) → (h ≡ slot_of (length heads) label) × (h < length heads) → e < length links
+    → {heads' links' : List ℕ} → heads' ≡ set heads h (e + 1) → links' ≡ set links e (get_or heads h 0) → Chained (rows_of w (e + 1) buf) heads' links'
+chained-label w n e buf c b q h s room p r =
+    let d = chained_more c (row_at w buf (e * w)) h (rw (q ∙ rows_at w n buf e b) at s.0) s.1 (omega (arith, room, length-rows w e buf)) in
+    rw (rows_more w e buf, p, r) (rw (length-rows w e buf) at d)

@@ -1,5 +1,6 @@
 -- Expanding by the facts (`expand`): document 01, section 3.
-use Rattle.std.specs.Prelude.{ℕ, zero, suc, cond, List, [], length, get_or, replicate, eqb}
+use Rattle.std.specs.Prelude.{ℕ, zero, suc, cond, List, [], length, get_or, replicate, eqb, Option, Some, None}
+use Rattle.deck.specs.declared.numbers.Element.{Element}
 use Rattle.deck.specs.Deck.{Deck, Fact, class_count, fact_count, fact_at}
 use Rattle.eval.specs.Lists.{range}
 use Rattle.build.specs.declared.bounds.Bounds.{Bounds}
@@ -16,6 +17,11 @@ use Rattle.build.specs.Model.{Model, note_in, reach}
 unfoldable pub highest : List ℕ → ℕ → ℕ
 highest taken zero = zero
 highest taken (suc n) = cond (label_has taken n) (highest taken n) (suc n)
+
+-- one more than an element, or 0 for none
+abbrev pub above : Option Element → ℕ
+above None = zero
+above (Some e) = suc e.0
 
 module _ (D : Deck) (floor : List ℕ) (B : Bounds) where
   -- the edge of r from e to the target of y: "labelled with y's row …; else with q's row …; else, q being unsatisfiable, with y's row and reason RunDelta(y); without a q there is LabelNotClosed(y, r) and no edge"

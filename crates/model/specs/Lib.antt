@@ -5,6 +5,8 @@ pub mod Closing
 pub mod Ends
 pub mod Expand
 pub mod FactIndex
+pub mod FactWalk
+pub mod Recall
 pub mod Rounds
 pub mod Triggers
 pub mod Still

@@ -1,5 +1,5 @@
 // Closing the edges under two-link chains and transitive roles, until a pass adds nothing.
-ghost use Rattle.std.specs.Prelude.{◌≡◌, ◌<◌, ◌≤◌, is_err};
+ghost use Rattle.std.specs.Prelude.{◌<◌, ◌≤◌, is_err};
 ghost use Rattle.deck.specs.Deck.{axiom_at, axiom_count};
 ghost use Rattle.eval.specs.Index.{Indexed};
 ghost use Rattle.build.specs.Building.{HasRoom, Pushed, deck_in, state_of};
@@ -13,7 +13,6 @@ use crate::pairs::{Pairs, count_pairs};
 use crate::rules::{Rule, rule_at};
 use build::building::{Build, Tripped};
 use build::tally::Tally;
-use deck::Deck;
 use deck::numbers::{Element, RoleId};
 use eval::edges::Edge;
 use eval::index::{EdgeIndex, make_index};

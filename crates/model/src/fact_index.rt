@@ -1,122 +1,133 @@
 // Tables for expanding by the facts: the facts by class, and the classes with a fact.
-ghost use Rattle.std.specs.Prelude.{◌≡◌, ◌&&◌, ℕ, ◌+◌, ◌*◌, ◌<◌, ◌≤◌, length, get_or, set};
-ghost use Rattle.std.specs.Int.Bits.{bit_and};
-ghost use Rattle.deck.specs.Content.{IsAccepted, deck_of};
-ghost use Rattle.deck.specs.Deck.{class_count, fact_count};
-ghost use Rattle.eval.specs.Lent.{label_width, member_in};
+ghost use Rattle.std.specs.Prelude.{◌≡◌, ◌&&◌, ℕ, ◌+◌, ◌*◌, ◌<◌, ◌≤◌, length, get_or, set, true, IfSome};
+ghost use Rattle.std.specs.Option.{ForSome};
+ghost use Rattle.deck.specs.Accepted.{content};
+ghost use Rattle.deck.specs.Content.{deck_of};
+ghost use Rattle.deck.specs.Deck.{class_count, fact_count, fact_at};
+ghost use Rattle.eval.specs.Lent.{label_width};
 ghost use Rattle.atoms.specs.Label.{label_has};
-ghost use Rattle.model.specs.FactIndex.{Indexed, Marked, Passed};
+ghost use Rattle.model.specs.FactIndex.{Indexed, Marked, Passed, entry_of, class_or, FactOf};
 
-use atoms::labels::{after, from_bit, insert_bit};
-use deck::classes::class_count;
-use deck::facts::{fact_at, fact_count};
-use deck::numbers::Element;
-use eval::bytes::label_width;
-use eval::labels::cell;
+use atoms::labels::{after, from_bit, insert};
+use deck::Deck;
+use deck::numbers::ClassId;
 
-// An entry of a table.
-pub fn entry(index: &[u32], at: usize) -> u32
-    requires { at < length index.now }
-    ensures { result ≡ get_or index.now at 0 }
+// What an entry of a table says: one less than it. 0 is none, so that a table of zeros, in fixed memory, says nothing.
+pub fn entry(table: &[u32], at: usize) -> Option<u32>
+    requires { at < length table.now }
+    ensures { get_or table.now at 0 ≡ entry_of result }
 {
-    index[at]
+    table[at].checked_sub(1)
 }
 
-// An entry becomes n.
-pub fn put(index: &mut [u32], at: usize, n: u32)
-    requires { at < length index.old }
-    ensures { index.new ≡ set index.old at n }
-{
-    index[at] = n;
+// The facts of a deck by class, and the classes with a fact.
+#[derive(Clone, Copy)]
+pub struct FactIndex<'t> {
+    pub deck: Deck<'t>,
+    // At a class its first fact, and after the classes at a fact the next of its class.
+    pub words: &'t [u32],
+    // The classes that a fact is of.
+    pub mask: &'t [u64],
+    pub ghost indexed: { Indexed (deck_of deck.bytes.now) 0 words.now },
+    pub ghost room: { class_count (deck_of deck.bytes.now) + fact_count (deck_of deck.bytes.now) ≤ length words.now },
+    pub ghost marked: { Marked (deck_of deck.bytes.now) (fact_count (deck_of deck.bytes.now)) mask.now },
+    pub ghost wide: { label_width (deck_of deck.bytes.now) ≤ length mask.now },
+}
+
+// The facts of a class, in order.
+#[derive(Drop)]
+pub struct FactsOf<'t> {
+    index: FactIndex<'t>,
+    class: ClassId,
+    next: Option<u32>,
+    ghost own: { ForSome next (λ i. FactOf (deck_of index.deck.bytes.now) class.0 i) },
+}
+
+impl<'t> FactIndex<'t> {
+    ghost use Rattle.model.specs.FactWalk.{facts_from, left};
+
+    // The facts of a class, in order.
+    pub fn facts_of(&self, class: ClassId) -> FactsOf<'t>
+        requires class_bound { class.0 < class_count (content self.now.deck) }
+        ensures { left result ≡ facts_from (content self.now.deck) class.0 0 }
+    {
+        FactsOf {
+            index: *self,
+            class,
+            next: entry(self.words, class.0 as usize),
+        }
+    }
+
+    // The next class from k on that the label has and that a fact is of. A `while`, as it goes on by words and not class by class.
+    pub fn next_class(&self, label: &[u64], k: u32) -> Option<ClassId>
+        requires label_len { length label.now ≡ label_width (content self.now.deck) }
+        requires k_bound { k ≤ class_count (content self.now.deck) }
+        ensures passed { Passed (λ i. label_has label.now i && label_has self.now.mask.now i) (class_count (content self.now.deck)) k (class_or (class_count (content self.now.deck)) result) }
+        ensures met { IfSome result (λ c. (c.0 < class_count (content self.now.deck)) × (label_has label.now c.0 ≡ true)) }
+    {
+        let count = self.deck.class_count();
+        let mut i = k;
+        while i < count {
+            let j = i as usize / 64;
+            let rest = from_bit(label[j] & self.mask[j], (i % 64) as u64);
+            if rest % 2 == 1 {
+                return Some(ClassId(i));
+            }
+            i = after(rest, i);
+        }
+        None
+    }
+}
+
+impl Iterator for FactsOf<'_> {
+    ghost use Rattle.std.specs.Iterator.{YieldsFirst, item_count};
+    ghost use Rattle.model.specs.FactWalk.{left};
+
+    type Item = u32;
+
+    ghost next_gives = { YieldsFirst left };
+
+    ghost remaining = { item_count left };
+
+    fn next(&mut self) -> Option<u32> {
+        let fact = self.next?;
+        let classes = self.index.deck.class_count() as usize;
+        self.next = entry(self.index.words, classes + fact as usize);
+        Some(fact)
+    }
 }
 
 // Fact i, of class k, becomes the first of its class, and the one that was follows it.
-fn put_first(index: &mut [u32], classes: u32, i: u32, k: u32)
+fn put_first(index: &mut [u32], classes: u32, i: u32, k: ClassId)
     requires i_in_bounds { classes + i < length index.old }
-    requires k_lt_classes { k < classes }
+    requires k_lt_classes { k.0 < classes }
     requires i_bound { i < 16384 }
-    ensures { index.new ≡ set (set index.old (classes + i) (get_or index.old k 0)) k (i + 1) }
+    ensures { index.new ≡ set (set index.old (classes + i) (get_or index.old k.0 0)) k.0 (i + 1) }
 {
-    let first = entry(index, k as usize);
-    put(index, classes as usize + i as usize, first);
-    put(index, k as usize, i + 1);
+    index[classes as usize + i as usize] = index[k.0 as usize];
+    index[k.0 as usize] = i + 1;
 }
 
-// The facts by class: at a class one more than its first fact, and after the classes at a fact one more than the next of its class; 0 for none.
-pub fn index_facts(deck: &[u8], index: &mut [u32])
-    requires accepted { IsAccepted deck.now }
-    requires deck_in_bounds { class_count (deck_of deck.now) + fact_count (deck_of deck.now) ≤ length index.old }
+// The facts by class, into a table of zeros: from the last fact down.
+pub fn index_facts(deck: &Deck, index: &mut [u32])
+    requires deck_in_bounds { class_count (content deck.now) + fact_count (content deck.now) ≤ length index.old }
     requires by_index { (k : ℕ) → get_or index.old k 0 ≡ 0 }
-    ensures { Indexed (deck_of deck.now) 0 index.new }
+    ensures { Indexed (content deck.now) 0 index.new }
 {
-    let classes = class_count(deck);
-    let mut i = fact_count(deck);
-    while 0 < i {
-        i -= 1;
-        let record = fact_at(deck, i);
-        put_first(index, classes, i, record.from.0);
+    let classes = deck.class_count();
+    for i in (0..deck.fact_count()).rev() {
+        let record = deck.fact_at(i);
+        put_first(index, classes, i, record.from);
     }
 }
 
 // The classes that a fact is of.
-pub fn mark_facts(deck: &[u8], mask: &mut [u64])
-    requires accepted { IsAccepted deck.now }
-    requires deck_in_bounds { class_count (deck_of deck.now) ≤ length mask.old * 64 }
-    ensures { Marked (deck_of deck.now) (fact_count (deck_of deck.now)) mask.new }
+pub fn mark_facts(deck: &Deck, mask: &mut [u64])
+    requires deck_in_bounds { class_count (content deck.now) ≤ length mask.old * 64 }
+    ensures { Marked (content deck.now) (fact_count (content deck.now)) mask.new }
 {
-    let count = fact_count(deck);
-    let mut i: u32 = 0;
-    while i < count {
-        let record = fact_at(deck, i);
-        insert_bit(mask, record.from.0);
-        i += 1;
+    for i in 0..deck.fact_count() {
+        let record = deck.fact_at(i);
+        insert(mask, record.from);
     }
-}
-
-fn and(a: u64, b: u64) -> u64
-    ensures { result ≡ bit_and a b }
-{
-    a & b
-}
-
-// The bits that word j of the label of e and of the mask share.
-fn shared(labels: &[u64], mask: &[u64], elements: u32, e: Element, width: usize, j: usize) -> u64
-    requires width_in_bounds { elements * width ≤ length labels.now }
-    requires e_lt_elements { e.0 < elements }
-    requires j_lt_width { j < width }
-    requires width_in_bounds_2 { width ≤ length mask.now }
-    ensures { result ≡ bit_and (get_or labels.now (e.0 * width + j) 0) (get_or mask.now j 0) }
-{
-    let i = cell(e.0 as usize, elements as usize, width, j, labels.len());
-    and(labels[i], mask[j])
-}
-
-// The next class from k on that e has and that has its bit in the mask, or the number of classes.
-pub fn next_class(
-    deck: &[u8],
-    labels: &[u64],
-    mask: &[u64],
-    elements: u32,
-    e: Element,
-    k: u32,
-) -> u32
-    requires accepted { IsAccepted deck.now }
-    requires deck_in_bounds { elements * label_width (deck_of deck.now) ≤ length labels.now }
-    requires e_lt_elements { e.0 < elements }
-    requires deck_in_bounds_2 { label_width (deck_of deck.now) ≤ length mask.now }
-    requires k_bound { k ≤ class_count (deck_of deck.now) }
-    ensures { Passed (λ i. member_in labels.now (label_width (deck_of deck.now)) e.0 i && label_has mask.now i) (class_count (deck_of deck.now)) k result }
-{
-    let width = label_width(deck);
-    let count = class_count(deck);
-    let mut i = k;
-    while i < count {
-        let word = shared(labels, mask, elements, e, width, i as usize / 64);
-        let rest = from_bit(word, (i % 64) as u64);
-        if rest % 2 == 1 {
-            return i;
-        }
-        i = after(rest, i);
-    }
-    count
 }

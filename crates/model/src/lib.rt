@@ -1,7 +1,6 @@
 // Builds the finite structure of a deck: document 01, sections 2 and 3.
 #![tactic(auto)]
 
-mod adapters;
 mod closing;
 mod ends;
 mod expand;

@@ -10,8 +10,8 @@ ghost use Rattle.build.specs.Model.{lent, top};
 ghost use Rattle.build.specs.Push.{Room};
 ghost use Rattle.model.specs.Phases.{number, ReadAs, later_phases, Dropped, Constructed};
 
-use crate::adapters::expand;
 use crate::closing::close_chains_and_transitivity;
+use crate::expand::expand;
 use crate::rounds::expand_from_axioms;
 use atoms::reasons::Reason;
 use build::building::{Build, Tripped};

@@ -1,7 +1,6 @@
 // Rounds of rules over the elements, until a round adds no element. What is asked of an element or of the table of triggers is said of the structure,
 // which every step changes: a struct with an invariant would be made anew for each, and so these are parameters beside it.
 ghost use Rattle.std.specs.Prelude.{◌≡◌, ◌&&◌, ◌<◌, ◌≤◌, [], length, get_or, is_err, IfOk};
-ghost use Rattle.deck.specs.Accepted.{content};
 ghost use Rattle.deck.specs.Deck.{Axiom, concept_count, axiom_at, axiom_count};
 ghost use Rattle.deck.specs.Reads.{list_of, ListFits};
 ghost use Rattle.eval.specs.Lent.{label_width};

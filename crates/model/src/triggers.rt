@@ -1,7 +1,7 @@
 // What an axiom's rules need before they can add something, and the table of it that a phase of rounds reads.
-ghost use Rattle.std.specs.Prelude.{◌≡◌, [], ◌∷◌, map, ◌+◌, ◌/◌, ◌<◌, ◌≤◌, length, IfSome};
+ghost use Rattle.std.specs.Prelude.{◌≡◌, [], ◌∷◌, map, ◌+◌, ◌<◌, ◌≤◌, length, IfSome};
 ghost use Rattle.deck.specs.Accepted.{content};
-ghost use Rattle.deck.specs.Deck.{Axiom, class_count, concept_count, axiom_count, axiom_at};
+ghost use Rattle.deck.specs.Deck.{Axiom, concept_count, axiom_count, axiom_at};
 ghost use Rattle.deck.specs.Reads.{list_of, ListFits};
 ghost use Rattle.eval.specs.Lists.{every, any};
 ghost use Rattle.atoms.specs.Antecedent.{is_rule, holds_atoms};

@@ -1,5 +1,5 @@
 // The lines of the text. The longest, a failure with three witnesses, has 50 bytes.
-ghost use Rattle.std.specs.Prelude.{◌≡◌, ◌+◌, ◌≤◌, length, get_or};
+ghost use Rattle.std.specs.Prelude.{◌+◌, length, get_or};
 ghost use Rattle.report.specs.Lines.{decimal, field, outcome_word, witness, verdict_text, summary_line, verdict_line, refusal_line};
 ghost use Rattle.report.specs.Writes.{HasRoom, Puts};
 

@@ -1,24 +1,20 @@
-use mathlib.Core.Path.{◌≡◌, refl, sym, ◌∙◌}
+use mathlib.Core.Path.{◌≡◌, sym, ap, ◌∙◌}
+use Prim.Native.Nat.{suc, ◌-◌}
 use native.Mathlib.Omega.{arith}
+use Rattle.model.specs.Expand.{highest}
 use Rattle.model.proofs.ExpandLaws.{highest-skip, highest-here, highest-none}
 use Rattle.model.proofs.expand.highest_untaken.Goals as goal
 
-pub loop-i-init : goal.loop-i-init
-loop-i-init c =
-    (omega arith, refl)
-
-pub has_bit-requires : goal.has_bit-requires
-has_bit-requires c =
-    omega (arith, c.requires)
+pub returns-then-not-has_bit : goal.returns-then-not-has_bit
+returns-then-not-has_bit c =
+    let e : c.loop-i.i ≡ suc (c.loop-i.i - 1) = omega arith in
+    sym c.loop-i.invariant ∙ highest-here _ c.loop-i.i (omega arith) (sym c.has_bit.ensures ∙ c.if-not-has_bit.true) ∙ e
 
 pub loop-i-preserved : goal.loop-i-preserved
 loop-i-preserved c =
-    (omega arith, sym (highest-skip _ c.loop-i.i c.loop-i-test.true (sym c.has_bit.ensures ∙ c.if-has_bit.true)) ∙ c.loop-i.invariant.1)
-
-pub returns-else-has_bit : goal.returns-else-has_bit
-returns-else-has_bit c =
-    sym (highest-here _ c.loop-i.i c.loop-i-test.true (sym c.has_bit.ensures ∙ c.if-has_bit.false)) ∙ c.loop-i.invariant.1
+    sym (highest-skip _ c.loop-i.i (omega arith) (sym c.has_bit.ensures ∙ c.if-not-has_bit.false)) ∙ c.loop-i.invariant
 
 pub returns : goal.returns
 returns c =
-    let e : c.loop-i.i ≡ 0 = omega arith in sym (highest-none _) ∙ (rw e at c.loop-i.invariant.1)
+    let e : c.loop-i.i ≡ 0 = omega arith in
+    sym c.loop-i.invariant ∙ ap (highest c.args.taken.now) e ∙ highest-none _

@@ -1,100 +1,64 @@
 use native.Mathlib.Omega.{arith}
 use mathlib.Core.Path.{refl, sym, ap, ◌∙◌}
+use Rattle.std.proofs.lemmas.Result.{err_from_is_err_and}
 use Rattle.build.specs.Model.{Model}
-use Rattle.build.proofs.BuildLaws.{built-size, built-start, prepared-after}
-use Rattle.model.proofs.ApartLaws.{since-start, since-tail, since-next, next-untaken}
+use Rattle.build.proofs.BuildingLaws.{holds-start}
+use Rattle.model.proofs.AimLaws.{recalls-on}
+use Rattle.model.proofs.ApartLaws.{since-start, since-tail, since-next}
 use Rattle.model.proofs.CursorLaws.{highest-resume, resume-below}
-use Rattle.model.proofs.ExpandLaws.{taking-start, taking-done, taking-below, taking-less, taking-stop, taking-next}
+use Rattle.model.proofs.ExpandLaws.{taking-start, taking-ready, taking-done, taking-below, taking-new, taking-place, taking-less, taking-stop, taking-next}
 use Rattle.model.proofs.expand.turns.Goals as goal
 
-pub loop-bounds-init : goal.loop-bounds-init
-loop-bounds-init c =
-    (taking-start c.requires.prepared refl, (c.requires.prepared, (omega arith, (refl, (since-start _ _ _, (c.requires.recalled, refl))))))
-
-pub slice_bounds-highest_untaken-end : goal.slice_bounds-highest_untaken-end
-slice_bounds-highest_untaken-end c =
-    sym c.loop-bounds.invariant.0.size
-
-pub highest_untaken-next-requires : goal.highest_untaken-next-requires
-highest_untaken-next-requires c =
-    omega (arith, c.loop-bounds.invariant.0.size, c.loop-bounds.invariant.1.0.few, c.loop-bounds.invariant.1.0.most, c.loop-bounds.invariant.1.1.0)
-
-pub shape_of-label-then-next-eq0 : goal.shape_of-label-then-next-eq0
-shape_of-label-then-next-eq0 c =
-    c.loop-bounds.invariant.1.0.label-wide ∙ sym c.requires.prepared.label-wide
-
-pub shape_of-labels-then-next-eq0 : goal.shape_of-labels-then-next-eq0
-shape_of-labels-then-next-eq0 c =
-    built-size c.requires.prepared c.loop-bounds.invariant.0.built
-
-pub shape_of-edges-then-next-eq0 : goal.shape_of-edges-then-next-eq0
-shape_of-edges-then-next-eq0 c =
-    c.loop-bounds.invariant.0.built.left.size
-
-pub shape_of-log-then-next-eq0 : goal.shape_of-log-then-next-eq0
-shape_of-log-then-next-eq0 c =
-    c.loop-bounds.invariant.0.built.left.log-size
-
-pub shape_of-known-then-next-eq0 : goal.shape_of-known-then-next-eq0
-shape_of-known-then-next-eq0 c =
-    c.loop-bounds.invariant.1.1.1.1.1.1
-
-pub returns-then-next-eq0 : goal.returns-then-next-eq0
-returns-then-next-eq0 c =
-    rw c.quiet.ensures (taking-done c.loop-bounds.invariant.0 (c.highest_untaken-next.ensures ∙ c.loop-bounds.invariant.1.1.1.0) c.if-next-eq0.true)
-
-pub slice_bounds-insert_bit-end : goal.slice_bounds-insert_bit-end
-slice_bounds-insert_bit-end c =
-    sym c.loop-bounds.invariant.0.size
-
-pub overflow_sub-next : goal.overflow_sub-next
-overflow_sub-next c =
-    omega (arith, c.if-next-eq0.false)
+pub loop-e-init : goal.loop-e-init
+loop-e-init c =
+    (taking-start c.requires.ready refl, omega arith, refl, since-start _ _ _, c.requires.recalled)
 
 pub insert_bit-requires : goal.insert_bit-requires
 insert_bit-requires c =
-    omega (arith, c.loop-bounds.invariant.0.size, taking-below c.loop-bounds.invariant.0 _ (c.highest_untaken-next.ensures ∙ c.loop-bounds.invariant.1.1.1.0) c.if-next-eq0.false, c.loop-bounds.invariant.1.0.few, c.loop-bounds.invariant.1.0.most)
+    let I = c.loop-e.invariant in
+    taking-place c.requires.ready I.0 _ (sym I.2 ∙ c.in-Some.ensures)
 
-pub overflow_sub-next-in-loop-bounds : goal.overflow_sub-next-in-loop-bounds
-overflow_sub-next-in-loop-bounds c =
-    omega (arith, c.if-next-eq0.false)
+pub work_classes-requires-clause-ready : goal.work_classes-requires-clause-ready
+work_classes-requires-clause-ready c =
+    taking-ready c.requires.ready c.loop-e.invariant.0
 
-pub work_classes-s-requires : goal.work_classes-s-requires
-work_classes-s-requires c =
-    record { prepared = c.loop-bounds.invariant.1.0; e_lt_elements = taking-below c.loop-bounds.invariant.0 _ (c.highest_untaken-next.ensures ∙ c.loop-bounds.invariant.1.1.1.0) c.if-next-eq0.false; indexed = c.requires.indexed; deck_in_bounds = c.requires.deck_in_bounds; marked = c.requires.marked; deck_in_bounds_2 = c.requires.deck_in_bounds_2; tail = since-tail c.loop-bounds.invariant.1.1.1.1.0 _ (next-untaken _ _ _ (c.highest_untaken-next.ensures ∙ c.loop-bounds.invariant.1.1.1.0) c.if-next-eq0.false) c.turn_start-since.ensures; recalled_2 = c.loop-bounds.invariant.1.1.1.1.1.0 }
+pub work_classes-requires-clause-e_lt_elements : goal.work_classes-requires-clause-e_lt_elements
+work_classes-requires-clause-e_lt_elements c =
+    let I = c.loop-e.invariant in
+    taking-below c.requires.ready I.0 _ (sym I.2 ∙ c.in-Some.ensures)
 
-pub shape_of-label-then-tripped : goal.shape_of-label-then-tripped
-shape_of-label-then-tripped c =
-    c.work_classes-s.ensures.built.wide ∙ sym c.requires.prepared.label-wide
+pub work_classes-requires-clause-tail : goal.work_classes-requires-clause-tail
+work_classes-requires-clause-tail c =
+    let I = c.loop-e.invariant in
+    since-tail I.3 _ (taking-new c.requires.ready I.0 _ (sym I.2 ∙ c.in-Some.ensures)) c.turn_start-since.ensures
 
-pub shape_of-labels-then-tripped : goal.shape_of-labels-then-tripped
-shape_of-labels-then-tripped c =
-    built-size c.loop-bounds.invariant.1.0 c.work_classes-s.ensures.built ∙ built-size c.requires.prepared c.loop-bounds.invariant.0.built
+pub returns-in_err-work_classes : goal.returns-in_err-work_classes
+returns-in_err-work_classes c =
+    let I = c.loop-e.invariant in
+    let z = err_from_is_err_and c.from_residual.result c.from_residual.ensures.1 in
+    rw z.1 (taking-stop c.requires.ready I.0 _ (sym I.2 ∙ c.in-Some.ensures) c.in_err-work_classes.ensures.holds refl)
 
-pub shape_of-edges-then-tripped : goal.shape_of-edges-then-tripped
-shape_of-edges-then-tripped c =
-    c.work_classes-s.ensures.built.left.size ∙ c.loop-bounds.invariant.0.built.left.size
+pub loop-e-smaller : goal.loop-e-smaller
+loop-e-smaller c =
+    let I = c.loop-e.invariant in
+    taking-less c.requires.ready I.0 _ (sym I.2 ∙ c.in-Some.ensures) c.insert_bit.ensures
 
-pub shape_of-log-then-tripped : goal.shape_of-log-then-tripped
-shape_of-log-then-tripped c =
-    c.work_classes-s.ensures.built.left.log-size ∙ c.loop-bounds.invariant.0.built.left.log-size
+pub loop-e-preserved : goal.loop-e-preserved
+loop-e-preserved c =
+    let I = c.loop-e.invariant in
+    let P = c.requires.ready in
+    let e = c.in-Some.e.0 in
+    let q = sym I.2 ∙ c.in-Some.ensures in
+    let X = c.in_ok-work_classes.ensures in
+    let p = taking-place P I.0 e q in (
+      taking-next P I.0 e q X.holds c.insert_bit.ensures,
+      resume-below e _ _ (taking-below P I.0 e q) X.holds.built.more c.resume-from.ensures,
+      highest-resume _ e _ _ p q c.insert_bit.ensures c.resume-from.ensures,
+      since-next I.3 _ _ _ e _ refl p c.insert_bit.ensures (ap (λ (m : Model). m.state.edges) (sym (holds-start X.holds))),
+      recalls-on I.0.held.same c.work_classes.new.b X.kept,
+    )
 
-pub shape_of-known-then-tripped : goal.shape_of-known-then-tripped
-shape_of-known-then-tripped c =
-    c.work_classes-s.auto.known ∙ c.loop-bounds.invariant.1.1.1.1.1.1
-
-pub returns-then-tripped : goal.returns-then-tripped
-returns-then-tripped c =
-    taking-stop c.loop-bounds.invariant.0 _ (c.highest_untaken-next.ensures ∙ c.loop-bounds.invariant.1.1.1.0) c.if-next-eq0.false (omega (arith, c.loop-bounds.invariant.1.0.few, c.loop-bounds.invariant.1.0.most)) c.work_classes-s.ensures.built c.if-tripped.true
-
-pub overflow_sub-next-in-loop-bounds-2 : goal.overflow_sub-next-in-loop-bounds-2
-overflow_sub-next-in-loop-bounds-2 c =
-    omega (arith, c.if-next-eq0.false)
-
-pub loop-bounds-smaller : goal.loop-bounds-smaller
-loop-bounds-smaller c =
-    taking-less c.loop-bounds.invariant.0 _ (c.highest_untaken-next.ensures ∙ c.loop-bounds.invariant.1.1.1.0) c.if-next-eq0.false (omega (arith, c.loop-bounds.invariant.1.0.few, c.loop-bounds.invariant.1.0.most)) c.insert_bit.ensures
-
-pub loop-bounds-preserved : goal.loop-bounds-preserved
-loop-bounds-preserved c =
-    (taking-next c.loop-bounds.invariant.0 _ (c.highest_untaken-next.ensures ∙ c.loop-bounds.invariant.1.1.1.0) c.if-next-eq0.false (omega (arith, c.loop-bounds.invariant.1.0.few, c.loop-bounds.invariant.1.0.most)) c.work_classes-s.ensures.built c.if-tripped.false c.insert_bit.ensures (c.insert_bit.auto.words ∙ c.loop-bounds.invariant.0.size), (prepared-after c.loop-bounds.invariant.1.0 c.work_classes-s.ensures.built c.if-tripped.false, (resume-below _ _ _ (taking-below c.loop-bounds.invariant.0 _ (c.highest_untaken-next.ensures ∙ c.loop-bounds.invariant.1.1.1.0) c.if-next-eq0.false) c.work_classes-s.ensures.built.more c.resume-from.ensures, (highest-resume _ _ _ _ (omega (arith, c.loop-bounds.invariant.0.size, taking-below c.loop-bounds.invariant.0 _ (c.highest_untaken-next.ensures ∙ c.loop-bounds.invariant.1.1.1.0) c.if-next-eq0.false, c.loop-bounds.invariant.1.0.few, c.loop-bounds.invariant.1.0.most)) (c.highest_untaken-next.ensures ∙ c.loop-bounds.invariant.1.1.1.0) c.if-next-eq0.false c.insert_bit.ensures c.resume-from.ensures, (since-next c.loop-bounds.invariant.1.1.1.1.0 _ _ _ _ _ refl (omega (arith, c.loop-bounds.invariant.0.size, taking-below c.loop-bounds.invariant.0 _ (c.highest_untaken-next.ensures ∙ c.loop-bounds.invariant.1.1.1.0) c.if-next-eq0.false, c.loop-bounds.invariant.1.0.few, c.loop-bounds.invariant.1.0.most)) c.insert_bit.ensures (ap (λ (m : Model). m.state.edges) (sym (built-start c.work_classes-s.ensures.built c.if-tripped.false))), (c.work_classes-s.ensures.recalled, c.work_classes-s.auto.known ∙ c.loop-bounds.invariant.1.1.1.1.1.1))))))
+pub returns : goal.returns
+returns c =
+    let I = c.loop-e.invariant in
+    taking-done c.requires.ready I.0 (sym I.2 ∙ c.in_default.ensures)

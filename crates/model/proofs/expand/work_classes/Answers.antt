@@ -1,93 +1,60 @@
 use native.Mathlib.Omega.{arith}
-use Prim.Native.Nat.{◌+◌}
-use mathlib.Core.Path.{refl, sym, ◌∙◌}
-use Rattle.deck.specs.Content.{deck_of}
+use Prim.Native.Nat.{◌-◌}
+use mathlib.Core.Path.{◌≡◌, refl, sym}
+use Rattle.std.proofs.lemmas.Result.{err_from_is_err_and}
+use Rattle.deck.specs.Deck.{class_count}
+use Rattle.eval.specs.Lists.{range}
 use Rattle.eval.proofs.Walks.{range-step, range-end}
-use Rattle.model.specs.Expand.{work_classes}
-use Rattle.build.proofs.BuildLaws.{built-size, prepared-after, all_fit, from_zero, model-start, model-done, model-stop, model-next}
-use Rattle.model.proofs.ExpandLaws.{class-stuck}
-use Rattle.model.proofs.PassLaws.{passed_over}
+use Rattle.build.specs.Building.{deck_in}
+use Rattle.build.proofs.BuildingLaws.{holds-is, walking-start, walking-ready, walking-next, walking-stop, walking-done}
 use Rattle.build.proofs.TailLaws.{tail-after}
+use Rattle.model.specs.Expand.{work_classes}
+use Rattle.model.proofs.AimLaws.{recalls-on}
+use Rattle.model.proofs.ExpandLaws.{class-stuck, class-yes}
+use Rattle.model.proofs.PassLaws.{classes_of, passed_over}
 use Rattle.model.proofs.expand.work_classes.Goals as goal
-
-pub class_count-count-requires : goal.class_count-count-requires
-class_count-count-requires c =
-    c.requires.prepared.accepted
-
-pub next_class-k-requires : goal.next_class-k-requires
-next_class-k-requires c =
-    record { accepted = c.requires.prepared.accepted; deck_in_bounds = all_fit c.requires.prepared; e_lt_elements = c.requires.e_lt_elements; deck_in_bounds_2 = c.requires.deck_in_bounds_2; k_bound = omega arith }
 
 pub loop-k-init : goal.loop-k-init
 loop-k-init c =
-    (c.next_class-k.ensures.most, (passed_over (deck_of c.args.deck.now) _ _ _ 0 _ (from_zero _ (model-start _ _ c.requires.prepared)) c.requires.marked c.requires.e_lt_elements c.next_class-k.ensures, (c.requires.prepared, (c.requires.recalled_2, refl))))
+    let n = class_count (deck_in c.args.b.now) in
+    let z : n - 0 ≡ n = omega arith in
+    (omega arith, rw z (walking-start (classes_of c.args.e.0) (range 0 n) c.requires.ready), c.requires.recalled)
 
-pub class_step-s-requires : goal.class_step-s-requires
-class_step-s-requires c =
-    record { prepared = c.loop-k.invariant.1.1.0; e_lt_elements = omega (arith, c.requires.e_lt_elements, c.loop-k.invariant.1.0.built.more); k_bound = omega (arith, c.class_count-count.ensures.is); indexed = c.requires.indexed; deck_in_bounds = c.requires.deck_in_bounds; tail = tail-after c.requires.tail c.loop-k.invariant.1.0.built; recalled_2 = c.loop-k.invariant.1.1.1.0 }
+pub next_class-requires-clause-ready : goal.next_class-requires-clause-ready
+next_class-requires-clause-ready c =
+    walking-ready c.loop-k.invariant.1 c.requires.ready
 
-pub shape_of-label-then-tripped : goal.shape_of-label-then-tripped
-shape_of-label-then-tripped c =
-    c.class_step-s.ensures.built.wide ∙ sym c.requires.prepared.label-wide
+pub work_facts-requires-clause-ready : goal.work_facts-requires-clause-ready
+work_facts-requires-clause-ready c =
+    walking-ready c.loop-k.invariant.1 c.requires.ready
 
-pub shape_of-labels-then-tripped : goal.shape_of-labels-then-tripped
-shape_of-labels-then-tripped c =
-    built-size c.loop-k.invariant.1.1.0 c.class_step-s.ensures.built ∙ built-size c.requires.prepared c.loop-k.invariant.1.0.built
+pub work_facts-requires-clause-tail : goal.work_facts-requires-clause-tail
+work_facts-requires-clause-tail c =
+    tail-after c.requires.tail c.loop-k.invariant.1.on.built
 
-pub shape_of-edges-then-tripped : goal.shape_of-edges-then-tripped
-shape_of-edges-then-tripped c =
-    c.class_step-s.ensures.built.left.size ∙ c.loop-k.invariant.1.0.built.left.size
-
-pub shape_of-log-then-tripped : goal.shape_of-log-then-tripped
-shape_of-log-then-tripped c =
-    c.class_step-s.ensures.built.left.log-size ∙ c.loop-k.invariant.1.0.built.left.log-size
-
-pub shape_of-known-then-tripped : goal.shape_of-known-then-tripped
-shape_of-known-then-tripped c =
-    c.class_step-s.auto.known ∙ c.loop-k.invariant.1.1.1.1
-
-pub returns-then-tripped : goal.returns-then-tripped
+pub returns-in_err-work_facts-clause-holds : goal.returns-in_err-work_facts-clause-holds
 unfolding work_classes
-returns-then-tripped c =
-    record { built = model-stop c.loop-k.invariant.1.0 (range-step c.loop-k.k _ (omega (arith, c.class_count-count.ensures.is))) c.class_step-s.ensures.built (λ k u w. class-stuck _ _ _ _ k u w) c.if-tripped.true; recalled = c.class_step-s.ensures.recalled }
-
-pub overflow_add-k : goal.overflow_add-k
-overflow_add-k c =
-    omega (arith, c.class_count-count.ensures.most)
-
-pub next_class-k-requires-in-loop-k : goal.next_class-k-requires-in-loop-k
-next_class-k-requires-in-loop-k c =
-    record { accepted = c.requires.prepared.accepted; deck_in_bounds = all_fit (prepared-after c.loop-k.invariant.1.1.0 c.class_step-s.ensures.built c.if-tripped.false); e_lt_elements = (omega (arith, c.requires.e_lt_elements, c.loop-k.invariant.1.0.built.more, c.class_step-s.ensures.built.more)); deck_in_bounds_2 = c.requires.deck_in_bounds_2; k_bound = omega (arith, c.class_count-count.ensures.is) }
-
-pub loop-k-smaller : goal.loop-k-smaller
-loop-k-smaller c =
-    omega (arith, c.next_class-k-in-loop-k.ensures.on)
+returns-in_err-work_facts-clause-holds c =
+    let W = c.loop-k.invariant.1 in
+    let k = c.in-Some.k.0 in
+    let m = rw W.same.plan at c.in-Some.ensures.met in
+    let V = passed_over c.args.e.0 W (rw c.requires.own at c.args.facts.now.marked) (rw W.same.plan at c.in-Some.ensures.passed) in
+    let z = err_from_is_err_and c.from_residual.result c.from_residual.ensures.1 in
+    rw z.1 (walking-stop V (range-step k _ m.0) (holds-is c.in_err-work_facts.ensures.holds (sym (class-yes _ _ _ _ k _ c.in-Some.ensures.met.1))) (λ j u w. class-stuck _ _ _ _ j u w) refl)
 
 pub loop-k-preserved : goal.loop-k-preserved
 loop-k-preserved c =
-    (c.next_class-k-in-loop-k.ensures.most, (passed_over (deck_of c.args.deck.now) _ _ _ (c.loop-k.k + 1) _ (model-next c.loop-k.invariant.1.0 (range-step c.loop-k.k _ (omega (arith, c.class_count-count.ensures.is))) c.class_step-s.ensures.built c.if-tripped.false) c.requires.marked (omega (arith, c.requires.e_lt_elements, c.loop-k.invariant.1.0.built.more, c.class_step-s.ensures.built.more)) c.next_class-k-in-loop-k.ensures, (prepared-after c.loop-k.invariant.1.1.0 c.class_step-s.ensures.built c.if-tripped.false, (c.class_step-s.ensures.recalled, c.class_step-s.auto.known ∙ c.loop-k.invariant.1.1.1.1))))
+    let W = c.loop-k.invariant.1 in
+    let k = c.in-Some.k.0 in
+    let m = rw W.same.plan at c.in-Some.ensures.met in
+    let V = passed_over c.args.e.0 W (rw c.requires.own at c.args.facts.now.marked) (rw W.same.plan at c.in-Some.ensures.passed) in
+    let X = c.in_ok-work_facts.ensures in
+    (omega (arith, m.0), walking-next V (range-step k _ m.0) (holds-is X.holds (sym (class-yes _ _ _ _ k _ c.in-Some.ensures.met.1))) refl, recalls-on W.same c.work_facts.new.b X.kept)
 
-pub shape_of-label : goal.shape_of-label
-shape_of-label c =
-    c.loop-k.invariant.1.1.0.label-wide ∙ sym c.requires.prepared.label-wide
-
-pub shape_of-labels : goal.shape_of-labels
-shape_of-labels c =
-    built-size c.requires.prepared c.loop-k.invariant.1.0.built
-
-pub shape_of-edges : goal.shape_of-edges
-shape_of-edges c =
-    c.loop-k.invariant.1.0.built.left.size
-
-pub shape_of-log : goal.shape_of-log
-shape_of-log c =
-    c.loop-k.invariant.1.0.built.left.log-size
-
-pub shape_of-known : goal.shape_of-known
-shape_of-known c =
-    c.loop-k.invariant.1.1.1.1
-
-pub returns : goal.returns
+pub returns-clause-holds : goal.returns-clause-holds
 unfolding work_classes
-returns c =
-    record { built = rw c.quiet.ensures (model-done c.loop-k.invariant.1.0 (range-end c.loop-k.k _ (omega (arith, c.class_count-count.ensures.is)))); recalled = rw c.quiet.ensures c.loop-k.invariant.1.1.1.0 }
+returns-clause-holds c =
+    let W = c.loop-k.invariant.1 in
+    let n = class_count (deck_in c.args.b.now) in
+    let V = passed_over c.args.e.0 W (rw c.requires.own at c.args.facts.now.marked) (rw W.same.plan at c.in_default.ensures.passed) in
+    walking-done V (range-end n n (omega arith))

@@ -1,103 +1,65 @@
 use native.Mathlib.Omega.{arith}
-use Prim.Native.Nat.{◌+◌, ◌-◌}
-use mathlib.Core.Path.{◌≡◌, refl, sym, ◌∙◌}
+use Prim.Native.Nat.{ℕ}
+use mathlib.Core.Path.{refl, sym, ap, ◌∙◌}
+use lib.ListN.{length, drop_of_length-le}
+use Rattle.std.proofs.lemmas.List.{length_push}
+use Rattle.std.proofs.lemmas.Result.{err_from_is_err_and}
+use Rattle.std.proofs.lemmas.Iterator.Consumers.{YieldsList-from_first, YieldsList-turn, YieldsList-end}
+use mathlib.Core.List.{List}
 use Rattle.deck.specs.Content.{deck_of}
-use Rattle.deck.specs.Deck.{fact_count}
-use Rattle.deck.proofs.SoundLaws.{limited}
-use Rattle.build.proofs.BuildLaws.{built-size, prepared-after, model-start, model-done, model-stop, model-next}
-use Rattle.model.proofs.ExpandLaws.{fact-stuck, facts-in-order}
-use Rattle.model.proofs.FactIndexLaws.{facts-going, rest_some, rest-none, left_less, link-next}
+use Rattle.build.specs.Building.{deck_in}
+use Rattle.build.proofs.BuildingLaws.{holds-is, walking-start, walking-ready, walking-next, walking-stop, walking-done}
 use Rattle.build.proofs.TailLaws.{tail-after}
+use Rattle.model.specs.FactWalk.{facts_from, left}
+use Rattle.model.proofs.AimLaws.{recalls-on}
+use Rattle.model.proofs.ExpandLaws.{fact-stuck, fact-own}
+use Rattle.model.proofs.FactIndexLaws.{fact-turn, facts-walk}
 use Rattle.model.proofs.expand.work_facts.Goals as goal
 
-pub class_count-classes-requires : goal.class_count-classes-requires
-class_count-classes-requires c =
-    c.requires.prepared.accepted
+pub loop-fact-init : goal.loop-fact-init
+loop-fact-init c =
+    (walking-start _ _ c.requires.ready, c.requires.recalled)
 
-pub entry-i-requires : goal.entry-i-requires
-entry-i-requires c =
-    omega (arith, c.requires.k_bound, c.requires.deck_in_bounds)
+pub work_fact-requires-clause-ready : goal.work_fact-requires-clause-ready
+work_fact-requires-clause-ready c =
+    walking-ready c.loop-fact.invariant.0 c.requires.ready
 
-pub loop-i-init : goal.loop-i-init
-loop-i-init c =
-    let R = facts-going (deck_of c.args.deck.now) _ _ _ _ 0 _ (model-start _ _ c.requires.prepared) (omega arith) (c.entry-i.ensures ∙ c.requires.indexed.heads _ c.requires.k_bound) in (R.0.most, (R.0.own, (R.1, (c.requires.prepared, (c.requires.recalled_2, refl)))))
+pub work_fact-requires-clause-fact_bound : goal.work_fact-requires-clause-fact_bound
+work_fact-requires-clause-fact_bound c =
+    let D = deck_in c.args.b.now in
+    let all = facts_from D c.args.k.0 0 in
+    let t = YieldsList-turn (YieldsList-from_first (λ (i : ℕ). i) left all (ap left c.into_iter-fact-iterator.ensures.into_iter_gives ∙ c.facts_of-fact-items.ensures ∙ ap (λ (s : List ℕ). facts_from (deck_of s) c.args.k.0 0) c.requires.own)) c.loop-fact.yielded _ c.loop-fact.yielded_by _ c.next.new.self c.in-Some.fact c.in-Some.is c.next.ensures.steps in
+    let F = fact-turn D c.args.k.0 (length c.loop-fact.yielded) c.in-Some.fact t.0 (sym t.1) in
+    rw c.loop-fact.invariant.0.same.plan F.1.below
 
-pub overflow_sub-i : goal.overflow_sub-i
-overflow_sub-i c =
-    omega (arith, c.loop-i-test.true)
+pub work_fact-requires-clause-tail : goal.work_fact-requires-clause-tail
+work_fact-requires-clause-tail c =
+    tail-after c.requires.tail c.loop-fact.invariant.0.on.built
 
-pub fact_step-s-requires : goal.fact_step-s-requires
-fact_step-s-requires c =
-    record { prepared = c.loop-i.invariant.1.1.1.0; fact_bound = omega (arith, c.loop-i.invariant.0, c.loop-i-test.true); tail = tail-after c.requires.tail c.loop-i.invariant.1.1.0.built; recalled_2 = c.loop-i.invariant.1.1.1.1.0 }
+pub loop-fact-preserved : goal.loop-fact-preserved
+loop-fact-preserved c =
+    let W = c.loop-fact.invariant.0 in
+    let D = deck_in c.args.b.now in
+    let k = c.args.k.0 in
+    let all = facts_from D k 0 in
+    let t = YieldsList-turn (YieldsList-from_first (λ (i : ℕ). i) left all (ap left c.into_iter-fact-iterator.ensures.into_iter_gives ∙ c.facts_of-fact-items.ensures ∙ ap (λ (s : List ℕ). facts_from (deck_of s) c.args.k.0 0) c.requires.own)) c.loop-fact.yielded _ c.loop-fact.yielded_by _ c.next.new.self c.in-Some.fact c.in-Some.is c.next.ensures.steps in
+    let F = fact-turn D k (length c.loop-fact.yielded) c.in-Some.fact t.0 (sym t.1) in
+    let X = c.in_ok-work_fact.ensures in
+    rw (length_push c.loop-fact.yielded c.in-Some.fact) (walking-next W F.0 (holds-is X.holds (sym (fact-own _ _ _ _ k _ _ (rw W.same.plan F.1.own)))) refl, recalls-on W.same c.work_fact.new.b X.kept)
 
-pub shape_of-label-then-tripped : goal.shape_of-label-then-tripped
-shape_of-label-then-tripped c =
-    c.fact_step-s.ensures.built.wide ∙ sym c.requires.prepared.label-wide
+pub returns-in_err-work_fact-clause-holds : goal.returns-in_err-work_fact-clause-holds
+returns-in_err-work_fact-clause-holds c =
+    let W = c.loop-fact.invariant.0 in
+    let D = deck_in c.args.b.now in
+    let k = c.args.k.0 in
+    let all = facts_from D k 0 in
+    let t = YieldsList-turn (YieldsList-from_first (λ (i : ℕ). i) left all (ap left c.into_iter-fact-iterator.ensures.into_iter_gives ∙ c.facts_of-fact-items.ensures ∙ ap (λ (s : List ℕ). facts_from (deck_of s) c.args.k.0 0) c.requires.own)) c.loop-fact.yielded _ c.loop-fact.yielded_by _ c.next.new.self c.in-Some.fact c.in-Some.is c.next.ensures.steps in
+    let F = fact-turn D k (length c.loop-fact.yielded) c.in-Some.fact t.0 (sym t.1) in
+    let z = err_from_is_err_and c.from_residual.result c.from_residual.ensures.1 in
+    rw z.1 (holds-is (walking-stop W F.0 (holds-is c.in_err-work_fact.ensures.holds (sym (fact-own _ _ _ _ k _ _ (rw W.same.plan F.1.own)))) (λ i u w. fact-stuck _ _ _ _ k _ u w) refl) (facts-walk c.args.b.now.plan _ _ _))
 
-pub shape_of-labels-then-tripped : goal.shape_of-labels-then-tripped
-shape_of-labels-then-tripped c =
-    built-size c.loop-i.invariant.1.1.1.0 c.fact_step-s.ensures.built ∙ built-size c.requires.prepared c.loop-i.invariant.1.1.0.built
-
-pub shape_of-edges-then-tripped : goal.shape_of-edges-then-tripped
-shape_of-edges-then-tripped c =
-    c.fact_step-s.ensures.built.left.size ∙ c.loop-i.invariant.1.1.0.built.left.size
-
-pub shape_of-log-then-tripped : goal.shape_of-log-then-tripped
-shape_of-log-then-tripped c =
-    c.fact_step-s.ensures.built.left.log-size ∙ c.loop-i.invariant.1.1.0.built.left.log-size
-
-pub shape_of-known-then-tripped : goal.shape_of-known-then-tripped
-shape_of-known-then-tripped c =
-    c.fact_step-s.auto.known ∙ c.loop-i.invariant.1.1.1.1.1
-
-pub returns-then-tripped : goal.returns-then-tripped
-returns-then-tripped c =
-    record { built = rw facts-in-order (model-stop c.loop-i.invariant.1.1.0 (rest_some c.loop-i.i (deck_of c.args.deck.now).facts c.loop-i-test.true c.loop-i.invariant.0) c.fact_step-s.ensures.built (λ f u w. fact-stuck _ _ _ _ _ f u w) c.if-tripped.true); recalled = c.fact_step-s.ensures.recalled }
-
-pub overflow_cast-i : goal.overflow_cast-i
-overflow_cast-i c =
-    omega (arith, c.loop-i.invariant.0, (limited _ c.requires.prepared.accepted).facts)
-
-pub overflow_sub-i-in-loop-i : goal.overflow_sub-i-in-loop-i
-overflow_sub-i-in-loop-i c =
-    omega (arith, c.loop-i-test.true)
-
-pub overflow_add-classes : goal.overflow_add-classes
-overflow_add-classes c =
-    omega (arith, c.loop-i.invariant.0, (limited _ c.requires.prepared.accepted).facts, c.class_count-classes.ensures.most)
-
-pub entry-i-requires-in-loop-i : goal.entry-i-requires-in-loop-i
-entry-i-requires-in-loop-i c =
-    omega (arith, c.class_count-classes.ensures.is, c.loop-i.invariant.0, c.loop-i-test.true, c.requires.deck_in_bounds)
-
-pub loop-i-smaller : goal.loop-i-smaller
-loop-i-smaller c =
-    let R = facts-going (deck_of c.args.deck.now) _ _ _ _ (c.loop-i.i - 1 + 1) _ (model-next c.loop-i.invariant.1.1.0 (rest_some c.loop-i.i (deck_of c.args.deck.now).facts c.loop-i-test.true c.loop-i.invariant.0) c.fact_step-s.ensures.built c.if-tripped.false) (omega (arith, c.loop-i.invariant.0, c.loop-i-test.true)) (link-next (deck_of c.args.deck.now) c.requires.indexed _ c.loop-i.i c.loop-i-test.true c.loop-i.invariant.0 (c.loop-i.invariant.1.0 c.loop-i-test.true) _ _ c.class_count-classes.ensures.is c.entry-i-in-loop-i.ensures) in left_less (fact_count (deck_of c.args.deck.now)) c.loop-i.i _ c.loop-i-test.true c.loop-i.invariant.0 R.0.most (λ z. omega (arith, R.0.on z, c.loop-i-test.true))
-
-pub loop-i-preserved : goal.loop-i-preserved
-loop-i-preserved c =
-    let R = facts-going (deck_of c.args.deck.now) _ _ _ _ (c.loop-i.i - 1 + 1) _ (model-next c.loop-i.invariant.1.1.0 (rest_some c.loop-i.i (deck_of c.args.deck.now).facts c.loop-i-test.true c.loop-i.invariant.0) c.fact_step-s.ensures.built c.if-tripped.false) (omega (arith, c.loop-i.invariant.0, c.loop-i-test.true)) (link-next (deck_of c.args.deck.now) c.requires.indexed _ c.loop-i.i c.loop-i-test.true c.loop-i.invariant.0 (c.loop-i.invariant.1.0 c.loop-i-test.true) _ _ c.class_count-classes.ensures.is c.entry-i-in-loop-i.ensures) in (R.0.most, (R.0.own, (R.1, (prepared-after c.loop-i.invariant.1.1.1.0 c.fact_step-s.ensures.built c.if-tripped.false, (c.fact_step-s.ensures.recalled, c.fact_step-s.auto.known ∙ c.loop-i.invariant.1.1.1.1.1)))))
-
-pub shape_of-label : goal.shape_of-label
-shape_of-label c =
-    c.loop-i.invariant.1.1.1.0.label-wide ∙ sym c.requires.prepared.label-wide
-
-pub shape_of-labels : goal.shape_of-labels
-shape_of-labels c =
-    built-size c.requires.prepared c.loop-i.invariant.1.1.0.built
-
-pub shape_of-edges : goal.shape_of-edges
-shape_of-edges c =
-    c.loop-i.invariant.1.1.0.built.left.size
-
-pub shape_of-log : goal.shape_of-log
-shape_of-log c =
-    c.loop-i.invariant.1.1.0.built.left.log-size
-
-pub shape_of-known : goal.shape_of-known
-shape_of-known c =
-    c.loop-i.invariant.1.1.1.1.1
-
-pub returns : goal.returns
-returns c =
-    let e : c.loop-i.i ≡ 0 = omega arith in record { built = rw (c.quiet.ensures, facts-in-order) (model-done c.loop-i.invariant.1.1.0 (rest-none _ _ e)); recalled = rw c.quiet.ensures c.loop-i.invariant.1.1.1.1.0 }
+pub returns-clause-holds : goal.returns-clause-holds
+returns-clause-holds c =
+    let all = facts_from (deck_in c.args.b.now) c.args.k.0 0 in
+    let t = YieldsList-end (YieldsList-from_first (λ (i : ℕ). i) left all (ap left c.into_iter-fact-iterator.ensures.into_iter_gives ∙ c.facts_of-fact-items.ensures ∙ ap (λ (s : List ℕ). facts_from (deck_of s) c.args.k.0 0) c.requires.own)) c.loop-fact.yielded _ c.loop-fact.yielded_by _ c.next.new.self c.in-None.is c.next.ensures.steps in
+    holds-is (walking-done c.loop-fact.invariant.0 (drop_of_length-le all (omega (arith, t.1)))) (facts-walk c.args.b.now.plan _ _ _)
