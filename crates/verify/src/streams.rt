@@ -3,7 +3,7 @@ ghost use Rattle.std.specs.Prelude.{◌≡◌, ◌<◌, ◌≤◌, IfOk, ⊤, le
 ghost use Rattle.std.specs.ControlFlow.{MatchControlFlow};
 ghost use Rattle.report.specs.Text.{program_text};
 
-use std::io::{ErrorKind, Stdin, Stdout};
+use std::io::{ErrorKind, Read, Stdin, Stdout, Write};
 use std::ops::ControlFlow;
 use std::{io, thread};
 
