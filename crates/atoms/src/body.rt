@@ -21,7 +21,8 @@ use deck::concepts::ConceptExpr;
 use deck::numbers::{ClassId, ConceptId, RoleId};
 use deck::rows::Span;
 
-// What the atoms so far gave: the first of them, whether one was not closed, and the total of reasons.
+// What the atoms so far gave: the first of them, whether one was not closed, and the total of reasons. The flag is no Option around
+// the others: all three are kept side by side, and an atom that is not closed need not be the first.
 #[derive(Clone, Copy)]
 pub struct Atoms {
     pub first: Option<ClassId>,
@@ -41,7 +42,8 @@ impl Atoms {
     }
 }
 
-// The label takes one atom in, by the label of its target by r.
+// The label takes one atom in, by the label of its target by r. Role, label and log go through the walk as parameters: a struct of them
+// would hold two `&mut`, and each step would have to say that they stay the same ones.
 fn join_atom(
     deck: &Deck,
     r: RoleId,
@@ -92,7 +94,8 @@ fn join_atoms(
     }
 }
 
-// The same of each concept of the list, all below `owner`.
+// The same of each concept of the list, all below `owner`. Each walk has its own such loop (here, in occurrences.rt and in visits.rt): a
+// shared one would take the step as a closure, and a closure in a cycle of calls wants the step's whole contract written again.
 #[cycle(join_atoms_join_operands_atoms)]
 fn join_operands_atoms(
     deck: &Deck,

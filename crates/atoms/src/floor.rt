@@ -144,6 +144,7 @@ fn join_axiom(deck: &Deck, axiom: u32, label: &mut [u64])
     requires label_len { length label.old ≡ label_width (content deck.now) }
     ensures { label.new ≡ insert_all label.old (floor_of (content deck.now) (axiom_at (content deck.now) «axiom»)) }
 {
+    // By the record's own tag, as document 01 has it: an enum of the 26 would have 24 arms that give nothing.
     let record = deck.axiom_at(axiom);
     let tag = record.tag;
     let x = record.first;

@@ -1,4 +1,5 @@
-// A label: words of 64 bits, class k being bit k mod 64 of word k / 64. One in the making is a slice of its own.
+// A label: words of 64 bits, class k being bit k mod 64 of word k / 64. One in the making is a slice of its own. How wide it is its deck
+// says, so functions ask for it: a type of both would hold a `&mut`, and each step would have to say that it stays the same one.
 ghost use Rattle.std.specs.Prelude.{[], ◌≡◌, cond, ℕ, ◌+◌, ◌*◌, ◌/◌, ◌^◌, ◌<◌, ◌≤◌, length, get_or, replicate, eqb};
 ghost use Rattle.std.specs.Int.Bits.{bit_or};
 ghost use Rattle.deck.specs.Accepted.{content};
@@ -52,7 +53,7 @@ pub fn insert(label: &mut [u64], class: ClassId)
     insert_bit(label, class.0);
 }
 
-// The label of element e, of so many in a buffer.
+// The label of element e, of so many in a buffer: how many are in use stands beside it, as the buffer is lent longer than it is used.
 pub fn label_at<'a>(deck: &Deck, labels: &'a [u64], elements: u32, e: Element) -> &'a [u64]
     requires deck_in_bounds { elements * label_width (content deck.now) ≤ length labels.now }
     requires e_lt_elements { e.0 < elements }

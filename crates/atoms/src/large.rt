@@ -21,7 +21,7 @@ use deck::Deck;
 use deck::concepts::ConceptExpr;
 use deck::numbers::{ClassId, ConceptId, RoleId};
 
-// What the atoms so far gave: whether there was one, whether one was not closed, and whether one gives a RunDelta. All three are counted alike, so the first is no Option around the others.
+// What the atoms so far gave: whether there was one, whether one was not closed, and whether one gives a RunDelta. All three are counted alike, each by an or over the atoms, so the first is no Option around the others.
 #[derive(Clone, Copy)]
 pub struct Seen {
     pub found: bool,

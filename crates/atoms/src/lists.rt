@@ -8,7 +8,7 @@ use deck::Deck;
 use deck::numbers::ConceptId;
 use deck::rows::Span;
 
-// Operand i of a list whose concepts are all below `owner`.
+// Operand i of a list whose concepts are all below `owner`: a bound on the number behind the wrapper, which no derived order of numbers says.
 pub fn operand(deck: &Deck, owner: ConceptId, list: Span, i: u32) -> ConceptId
     requires list_fits { ListFits deck.now.bytes.now owner.0 list }
     requires i_lt_count { i < list.count }

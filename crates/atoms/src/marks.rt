@@ -14,7 +14,7 @@ use deck::concepts::ConceptExpr;
 use deck::numbers::ConceptId;
 use deck::rows::Span;
 
-// The highest mark below i: word by word where a word is empty, so in a loop of its own.
+// The highest mark below i: word by word where a word is empty, so in a loop of its own, and no `for` over single places.
 fn highest_mark(marks: &[u64], i: u32) -> Option<ConceptId>
     requires i_in_bounds { i ≤ length marks.now * 64 }
     ensures { result ≡ highest_mark marks.now i }
@@ -52,6 +52,7 @@ fn next_leaf(deck: &Deck, marks: &mut [u64], i: u32) -> Option<ConceptId>
     requires marks_len { length marks.old ≡ 256 }
     ensures { Next (content deck.now) marks.old i marks.new result }
 {
+    // No `for`: an And on the way marks more of what is still to come.
     let mut below = i;
     while let Some(k) = highest_mark(marks, below) {
         let expr = deck.concept_at(k);
@@ -64,7 +65,7 @@ fn next_leaf(deck: &Deck, marks: &mut [u64], i: u32) -> Option<ConceptId>
     None
 }
 
-// A walk over all that marked concepts lead to, downward from a number: each leaf once.
+// A walk over all that marked concepts lead to, downward from a number: each leaf once. A mark for each of 16,384 concepts, in fixed memory.
 #[derive(Drop)]
 pub struct Leaves<'a> {
     pub deck: Deck<'a>,

@@ -128,7 +128,7 @@ fn note_operands(
     held
 }
 
-// The first atom of the concepts of the list, all below `owner`, or 4,294,967,295 for none: a word of the table, which has no room for an Option.
+// The first atom of the concepts of the list, all below `owner`, or 4,294,967,295 for none: a word of the table, whose words have no room for an Option beside the number.
 fn first_in(deck: &Deck, owner: ConceptId, list: Span, table: &[u32]) -> u32
     requires list_fits { ListFits deck.now.bytes.now owner.0 list }
     requires owner_in_bounds { owner.0 ≤ length table.now }

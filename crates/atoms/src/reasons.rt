@@ -4,24 +4,12 @@ ghost use Rattle.atoms.specs.Reasons.{bound_number, label_not_closed, run_delta,
 
 use deck::numbers::{ClassId, RoleId};
 
-// A bound of a run.
+// A bound of a run, by its number in the log.
 #[derive(Clone, Copy, Debug, PartialEq, Eq)]
 pub enum Bound {
-    Elements,
-    Edges,
-    Rounds,
-}
-
-impl Bound {
-    fn number(self) -> u32
-        ensures { result ≡ bound_number self }
-    {
-        match self {
-            Bound::Elements => 0,
-            Bound::Edges => 1,
-            Bound::Rounds => 2,
-        }
-    }
+    Elements = 0,
+    Edges = 1,
+    Rounds = 2,
 }
 
 // A bound that tripped has its limit with it. The axioms are those dropped at conversion.
@@ -58,14 +46,14 @@ impl Reason {
         Reason::AxiomsDropped(dropped)
     }
 
-    // As the log has it.
+    // As the log has it: a reason's number, and its two words. Variants with fields have no numbers of their own.
     fn words(self) -> [u32; 3]
         ensures { result ≡ words_of self }
     {
         match self {
             Reason::LabelNotClosed(class, role) => [1, class.0, role.0],
             Reason::RunDelta(class) => [2, class.0, 0],
-            Reason::BoundTripped(bound, limit) => [3, bound.number(), limit],
+            Reason::BoundTripped(bound, limit) => [3, bound as u32, limit],
             Reason::AxiomsDropped(dropped) => [4, dropped, 0],
         }
     }

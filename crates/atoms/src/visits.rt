@@ -1,4 +1,5 @@
-// How large a concept is to walk: estimates, on which no answer depends.
+// How large a concept is to walk: estimates, on which no answer depends. What is left of them is a number, and 0 is none left: no Option is
+// plainer, as every step takes one away.
 ghost use Rattle.std.specs.Prelude.{◌<◌, ◌≤◌, length};
 ghost use Rattle.deck.specs.Accepted.{content};
 ghost use Rattle.deck.specs.Deck.{concept_count};

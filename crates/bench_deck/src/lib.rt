@@ -7,6 +7,7 @@ ghost use Rattle.bench_deck.specs.Bench.{answer_number, sum_of};
 
 use deck::refusal::Refusal;
 
+// Like capi's `deck_number`, and not that: what is timed stands on deck alone.
 fn number(answer: Result<(), Refusal>) -> u32
     ensures { result ≡ answer_number answer }
 {

@@ -60,6 +60,7 @@ impl Build<'_, '_> {
         ensures holds { Holds self.old self.new (is_err result) (spec.work (deck_in self.old) self.old.plan.floor.now self.old.plan.bounds concept.0 e.0 (model_of self.old)) }
         ensures known { OnOk result (Quiet (deck_in self.old) self.old.plan.floor.now self.old.plan.bounds memo.new (model_by self.old self.new)) }
     {
+        // A `loop`: each turn goes on from what the Some before it led to.
         let deck = self.plan.deck;
         let mut c = concept;
         let mut e = e;

@@ -1,5 +1,6 @@
 // Labels found by fingerprint, for seeding and for the targets of facts: the elements of one slot are a chain, the last first. `heads` has one more than the
 // first of each chain, `links` one more than the next after each element. 0 is none, so that a table of zeros, in fixed memory, is an empty one.
+// The two stay slices of their own: a struct of both would hold two `&mut`, and each step would have to say that they stay the same ones.
 ghost use Rattle.std.specs.Prelude.{◌≡◌, ◌+◌, ◌*◌, ◌<◌, ◌≤◌, length, get_or, set};
 ghost use Rattle.atoms.specs.Rows.{rows_of};
 ghost use Rattle.build.specs.Intern.{interned, Found};
@@ -57,6 +58,7 @@ pub fn find_at(
     requires h_value { (h ≡ slot_of (length heads.now) label.now) × (h < length heads.now) }
     ensures { Found (rows_of (length label.now) elements labels.now) label.now result }
 {
+    // No `for`: where a chain goes on is known at each of its elements. To its end, as the first element with the label comes last in it.
     let mut found = None;
     let mut p = heads[h];
     while p != 0 {

@@ -69,7 +69,8 @@ fn give(answer: &mut [u32], words: [u32; 4]) -> u32
     0
 }
 
-// Each of the three below writes the words of an answer and returns 0, or returns the number of a refusal.
+// Each of the three below writes the words of an answer and returns 0, or returns the number of a refusal. One function for all would take
+// the answer already mapped to its words, a closure and a law more for each than the two arms here.
 pub fn tell_judgement(answer: &mut [u32], judged: Result<Judgement, Refusal>) -> u32
     requires { 4 ≤ length answer.old }
     ensures { told result answer.new ≡ judgement_told judged answer.old }

@@ -9,6 +9,7 @@ use std::io::Read;
 pub fn read_full(reader: &mut impl Read, room: &mut [u8]) -> io::Result<usize>
     ensures { ReadsAtMost result room.new }
 {
+    // No `for`: each read says itself how much it took.
     let mut done = 0;
     while done < room.len() {
         let n = reader.read(&mut room[done..])?;

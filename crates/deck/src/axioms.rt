@@ -6,7 +6,7 @@ ghost use Rattle.deck.specs.Reads.{CountRead, AxiomRead};
 
 use crate::accepted::Deck;
 
-// A tag, 0 to 25, and the three fields that the tag gives a meaning.
+// A tag, 0 to 25, and the three fields that the tag gives a meaning. No enum: document 01 has `check_axiom` as a match on the copied tag.
 #[derive(Clone, Copy, Debug, PartialEq, Eq)]
 pub struct AxiomRecord {
     pub tag: u32,

@@ -37,7 +37,8 @@ pub const INJECTED_FORM: Form = Form::Fields(Kind::Class, Kind::Role, Kind::Real
 
 pub const FACT_FORM: Form = Form::Fields(Kind::Class, Kind::Role, Kind::Class);
 
-// The fields of a concept, by its tag.
+// The fields of a concept, by its tag. A match and no table: one read by tag is made on the stack at each read, and the check of a deck takes
+// twice as long (docs/DECISIONS.md, 53).
 pub fn concept_form(tag: u32) -> Form
     ensures { result ≡ concept_form tag }
 {
@@ -58,7 +59,7 @@ pub fn concept_form(tag: u32) -> Form
     }
 }
 
-// The fields of an axiom, by its tag.
+// The fields of an axiom, by its tag; a match as above.
 pub fn axiom_form(tag: u32) -> Form
     ensures { result ≡ axiom_form tag }
 {

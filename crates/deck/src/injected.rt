@@ -18,7 +18,9 @@ impl Deck<'_> {
         parts.part_word(2, k, 0) * 1024 + parts.part_word(2, k, 1)
     }
 
-    // The class q of the record (y, r, q), found by halving.
+    // The class q of the record (y, r, q), found by halving: the records lie in the lent bytes as words, so there is no slice of them to search,
+    // and without a heap none can be made. `Parts::find` halves too; one function for both would take what it reads as a closure, and
+    // its contract the order of what that answers.
     pub fn injected_class(&self, y: ClassId, r: RoleId) -> Option<ClassId>
         requires y_bound { y.0 < class_count (deck_of self.now.bytes.now) }
         requires r_bound { r.0 < role_count (deck_of self.now.bytes.now) }

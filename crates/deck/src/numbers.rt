@@ -1,4 +1,5 @@
-// The numbers of a deck and of a structure, each with a wrapper of its own.
+// The numbers of a deck and of a structure, each with a wrapper of its own. What a number is below is its deck's to say, which its type
+// does not name: so functions ask for it (as `concept.0 < concept_count ..`), and what reads a deck promises it.
 ghost use Rattle.std.specs.Prelude.{◌≡◌};
 ghost use Rattle.deck.specs.Numbers.{inverse_word, role_number};
 

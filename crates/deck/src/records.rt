@@ -116,6 +116,7 @@ impl Draft<'_> {
         in_order(self.parts.role_order(k))
     }
 
+    // Like that of a class: a function of both would take the form and the order as parameters, and be longer than either.
     fn injected_answer(&self, k: usize) -> Result<(), Refusal>
         requires { k < part_count self.now.parts.bytes.now 2 }
         ensures { result ≡ injected_answer self.now.parts.bytes.now k }
@@ -173,6 +174,7 @@ impl Draft<'_> {
         self.record_fault(5, k)
     }
 
+    // By the part's number, as all parts are gone through in order.
     fn record_answer(&self, p: usize, k: usize) -> Result<(), Refusal>
         requires p_bound { p < 6 }
         requires k_bound { k < part_count self.now.parts.bytes.now p }

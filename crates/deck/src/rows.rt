@@ -10,7 +10,8 @@ use crate::accepted::Deck;
 use crate::parts::Parts;
 use crate::words;
 
-// A row or a list: so many words of lists, from a start.
+// A row or a list: so many words of lists, from a start. What its words are below goes by whose it is, so that is no fact of the type but
+// asked for where it is read (`ListFits`).
 #[derive(Clone, Copy, Debug, PartialEq, Eq)]
 pub struct Span {
     pub start: u32,
@@ -61,7 +62,8 @@ impl Parts<'_> {
         rises
     }
 
-    // Whether a word of a row that rises is x, by halving.
+    // Whether a word of a row that rises is x, by halving: the words lie in the lent bytes, so there is no slice of them to search, and
+    // without a heap none can be made.
     pub fn find(&self, start: usize, count: usize, x: usize) -> bool
         requires count_bound { start + count ≤ part_count self.now.bytes.now 6 }
         requires count_value { row_rises self.now.bytes.now start count ≡ true }

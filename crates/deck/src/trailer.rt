@@ -23,7 +23,8 @@ pub fn width(p: usize) -> usize
     WIDTHS[p]
 }
 
-// The bytes of a deck that is long enough for its trailer.
+// The bytes of a deck that is long enough for its trailer. A part goes by its number: the trailer has the parts in order, loops count them, and
+// tables are read by them; an enum would be turned into the number at each of these.
 #[derive(Clone, Copy)]
 pub struct Trailer<'a> {
     pub bytes: &'a [u8],

@@ -22,6 +22,7 @@ use model::outcome::Outcome;
 use model::run::run;
 use std::io;
 
+// The test's own: it takes no number from what it tests.
 fn outcome_number(outcome: Outcome) -> u32 {
     match outcome {
         Outcome::Confirmed => 0,
