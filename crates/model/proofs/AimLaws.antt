@@ -1,10 +1,10 @@
 -- Steps of expanding, one after the other: a reason that is noted first, and what is remembered on the way.
 --     holds-then                 two steps, the second by the plan
 --     holds-note                 a reason
---     recalls-same, recalls-on, recalls-own    what is remembered
+--     recalls-on                 what is remembered
 use Prim.Native.Nat.{ℕ}
 use mathlib.Core.Bool.{Bool, false}
-use mathlib.Core.Path.{◌≡◌, sym, ap, ◌∙◌, subst}
+use mathlib.Core.Path.{◌≡◌, ap, ◌∙◌, subst}
 use mathlib.Core.List.{List}
 use Rattle.deck.specs.Content.{deck_of}
 use Rattle.eval.specs.Lent.{label_width}
@@ -28,14 +28,7 @@ pub holds-note : {a c : Build} → Ready a → (x : Reason) → Same a c → c.l
     → Holds a c false (note_in x (model_of a))
 holds-note P x S p q r = record { same = S; built = rw (r.0, r.1, r.2) (built-note P x p q) }
 
--- ---- what is remembered
-pub recalls-same : (a c : Build) {known : List ℕ} → Recalls a a known → c.labels ≡ a.labels → c.tally.elements ≡ a.tally.elements → Recalls a c known
-recalls-same a c {known} R p q = rw (p, q) R
-
+-- what is remembered, by the plan of an earlier step
 pub recalls-on : {a b : Build} → Same a b → (c : Build) {known : List ℕ} → Recalls b c known → Recalls a c known
 recalls-on {a} {b} S c {known} R =
     subst (λ (p : Plan). Recalled (deck_of p.deck.bytes.now) p.floor.now (rows_of (label_width (deck_of p.deck.bytes.now)) c.tally.elements c.labels.now) known) S.plan R
-
-pub recalls-own : {a c : Build} {known : List ℕ} → Same a c → Recalls a c known → Recalls c c known
-recalls-own {a} {c} {known} S R =
-    subst (λ (p : Plan). Recalled (deck_of p.deck.bytes.now) p.floor.now (rows_of (label_width (deck_of p.deck.bytes.now)) c.tally.elements c.labels.now) known) (sym S.plan) R

@@ -20,7 +20,7 @@ pub cond-false : {A : Type 0} (b : Bool) (x y : A) → b ≡ false → cond b x 
 cond-false true x y h = clash (cc)
 cond-false false x y h = refl
 
-has-own : (l : List ℕ) (k : ℕ) → k / 64 < length l → label_has (insert_bit l k) k ≡ true
+pub has-own : (l : List ℕ) (k : ℕ) → k / 64 < length l → label_has (insert_bit l k) k ≡ true
 has-own l k h = has-insert l k k h ∙ rw (eq-eqb k k refl) (or-true (label_has l k))
 
 -- once it is taken, all from it on are

@@ -6,9 +6,10 @@ use Rattle.build.specs.declared.plan.Plan.{Plan}
 use Rattle.build.specs.Building.{Ready, Holds, deck_in, buffers, model_of, model_by}
 use Rattle.build.proofs.BuildingLaws.{holds-same, holds-is, holds-trans, holds-start, ready-after}
 use Rattle.atoms.proofs.LabelLaws.{length-insert}
-use Prim.Native.Nat.{ℕ, zero, suc, ◌+◌, ◌-◌, ◌*◌, ◌/◌, ◌<◌, ◌≤◌}
+use Rattle.model.proofs.CursorLaws.{cond-true, cond-false, has-own}
+use Prim.Native.Nat.{ℕ, zero, suc, ◌+◌, ◌-◌, ◌/◌, ◌<◌, ◌≤◌}
 use mathlib.Core.Path.{◌≡◌, refl, sym, ap, ◌∙◌, subst}
-use mathlib.Core.Bool.{Bool, true, false, cond, or-true, or-false}
+use mathlib.Core.Bool.{Bool, true, false, cond, or-false}
 use mathlib.Core.List.{List, []}
 use mathlib.Core.Logic.{⊎_elim}
 use native.Mathlib.Nat.{eq-or-lt_of_le, le_of_suc-le-suc}
@@ -31,14 +32,6 @@ use Rattle.atoms.specs.Walk.{walk}
 use Rattle.build.proofs.SeedLaws.{no_fact}
 use Rattle.atoms.proofs.WalkLaws.{walk-fixed, walk-placed}
 use Rattle.build.proofs.BuildLaws.{built-quiet, built-tripped}
-
-cond-true : {A : Type 0} (b : Bool) (x y : A) → b ≡ true → cond b x y ≡ x
-cond-true true x y h = refl
-cond-true false x y h = absurd (let z : ◌≡◌ {A = ℕ} 0 1 = cc in omega arith)
-
-cond-false : {A : Type 0} (b : Bool) (x y : A) → b ≡ false → cond b x y ≡ y
-cond-false true x y h = absurd (let z : ◌≡◌ {A = ℕ} 0 1 = cc in omega arith)
-cond-false false x y h = refl
 
 cond_same : {A : Type 0} (b : Bool) (x y : A) → x ≡ y → cond b x y ≡ y
 cond_same true x y h = h
@@ -91,9 +84,6 @@ untaken taken (suc n) = cond (label_has taken n) (untaken taken n) (suc (untaken
 
 has_other : (l : List ℕ) (k j : ℕ) → k / 64 < length l → (k ≡ j → ⊥) → label_has (insert_bit l k) j ≡ label_has l j
 has_other l k j h n = has-insert l k j h ∙ rw (ne_eqb k j n) (or-false (label_has l j))
-
-has-own : (l : List ℕ) (k : ℕ) → k / 64 < length l → label_has (insert_bit l k) k ≡ true
-has-own l k h = has-insert l k k h ∙ rw (eq-eqb k k refl) (or-true (label_has l k))
 
 untaken-past : (taken : List ℕ) (e n : ℕ) → n ≤ e → e / 64 < length taken → untaken (insert_bit taken e) n ≡ untaken taken n
 unfolding untaken
@@ -180,9 +170,6 @@ taking-start P {taken} e = record {
 module _ {a b : Build} {taken : List ℕ} (P : Ready a) (T : Taking a b taken) where
   pub taking-ready : Ready b
   taking-ready = ready-after P T.held
-
-  pub taking-fits : b.tally.elements ≤ length taken * 64
-  taking-fits = omega (arith, T.size, taking-ready.few, taking-ready.most)
 
   count : (n : ℕ) → highest taken b.tally.elements ≡ n → highest taken (length (model_by a b).labels) ≡ n
   count n q = ap (highest taken) (length-rows (label_width (deck_in a)) b.tally.elements b.labels.now) ∙ q

@@ -1,7 +1,7 @@
 -- The tables of expanding by the facts: filling them, and going by them.
 --     comes, fact-turn, facts-walk  a walk over the facts of a class goes from one to the next
 --     indexed-start, indexed-step  the facts by class
---     marked_start, marked_step    the classes with a fact
+--     marked_step                  the classes with a fact
 --     class-passed                 a class that e has not, or that no fact is of, changes nothing
 --     turns-idle                   without a fact no turn changes anything
 use Rattle.build.specs.declared.plan.Plan.{Plan}
@@ -167,9 +167,6 @@ indexed-down D {index} i h b X room classes k c o f q =
     (q ∙ ap (λ (n : ℕ). set (set index (n + (i - 1)) (get_or index k 0)) k (i - 1 + 1)) c ∙ ap (λ (n : ℕ). set (set index (class_count D + (i - 1)) (get_or index n 0)) n (i - 1 + 1)) o)
 
 -- ---- the classes with a fact
-pub marked_start : (D : Deck) (mask : List ℕ) → Marked D 0 mask
-marked_start D mask = record { marks = λ i b. absurd (omega (arith, b)) }
-
 pub marked_step : {D : Deck} {n : ℕ} {mask : List ℕ} → Marked D n mask → {k : ℕ} → k ≡ (fact_at D n).from → k / 64 < length mask → {next : List ℕ} → next ≡ insert_bit mask k → Marked D (n + 1) next
 marked_step {D} {n} {mask} X {k} e h₀ q = record { marks = λ i b. rw (q, e) (marks i b) }
   where
@@ -181,9 +178,6 @@ marked_step {D} {n} {mask} X {k} e h₀ q = record { marks = λ i b. rw (q, e) (
         has-insert mask (fact_at D n).from (fact_at D i).from h
         ∙ by_cases i n (λ (z : i ≡ n). subst (λ (j : ℕ). (label_has mask (fact_at D j).from || eqb (fact_at D n).from (fact_at D j).from) ≡ true) (sym z) (rw (eq-eqb (fact_at D n).from (fact_at D n).from refl) (or-true (label_has mask (fact_at D n).from))))
         (λ (z : i ≡ n → ⊥). rw (X.marks i (omega (arith, b, z))))
-
-pub marked-done : {D : Deck} {n m : ℕ} {mask : List ℕ} → Marked D n mask → n ≡ m → Marked D m mask
-marked-done {D} {mask = mask} X e = subst (λ (k : ℕ). Marked D k mask) e X
 
 -- ---- classes that are passed over
 module _ (D : Deck) (floor : List ℕ) (B : Bounds) (e : ℕ) {mask : List ℕ} (M : Marked D (fact_count D) mask) (k : ℕ) (m : Model) where

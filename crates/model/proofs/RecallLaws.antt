@@ -1,5 +1,4 @@
 -- The elements of rows that are remembered: labels are only appended, so each stays where it is.
---     recalled-start, recalled-same     no class, the same labels
 --     recalled-reach, recalled-row      a row interned, a row found
 --     recall-link                       the edge to a remembered element
 use lib.ListN.{drop, length-drop}
@@ -12,10 +11,8 @@ use Rattle.atoms.proofs.RowLaws.{rows_at, rows_more}
 use Rattle.atoms.specs.Rows.{row_at}
 use Rattle.build.specs.declared.building.Build.{Build}
 use Rattle.build.specs.Building.{Ready, Holds, Pushed, deck_in, state_of, model_of}
-use Rattle.build.specs.Push.{State}
 use Rattle.build.specs.Model.{linked}
 use Rattle.build.proofs.BuildLaws.{reach-linked}
-use denote.Ref.{MutBor}
 use Rattle.model.specs.Recall.{Recalls}
 use Prim.Native.Nat.{ℕ, zero, suc, ◌+◌, ◌-◌, ◌<◌, ◌≤◌}
 use mathlib.Core.Path.{◌≡◌, refl, sym, ap, ◌∙◌, subst}
@@ -23,7 +20,7 @@ use mathlib.Core.Bool.{Bool, true, false, cond}
 use mathlib.Core.List.{List, [], ◌∷◌, ◌++◌}
 use mathlib.Core.Logic.{⊎_elim}
 use native.Mathlib.Omega.{arith}
-use lib.ListN.{length, get_or, set, length-set, length-append, length-replicate, replicate}
+use lib.ListN.{length, get_or, set, length-set, length-append}
 use lib.Seq.{get_or-set_same, get_or-set_other}
 use Rattle.deck.specs.Deck.{Deck, class_count, class_at}
 use Rattle.deck.specs.Content.{deck_of}
@@ -41,7 +38,7 @@ use Rattle.build.specs.Push.{edge}
 use Rattle.build.specs.Model.{Model, Buffers, begun, Prepared, Built, reach}
 use Rattle.model.specs.FactIndex.{Recalled}
 use Rattle.atoms.proofs.LabelLaws.{same_refl}
-use Rattle.atoms.proofs.MemberLaws.{by_cases, zero_word}
+use Rattle.atoms.proofs.MemberLaws.{by_cases}
 use Rattle.atoms.proofs.RowLaws.{length-rows}
 use Rattle.build.proofs.InternLaws.{interned-known, interned-new, index-le, placed-known, held_rows}
 use Rattle.build.proofs.SeedLaws.{length-row-label}
@@ -86,16 +83,6 @@ interned-more ls l =
     (lt-or-le (index_of ls l) (length ls))
 
 -- ---- what is remembered
-pub recalled-start : (D : Deck) (floor : List ℕ) (ls : List (List ℕ)) (n : ℕ) → class_count D ≤ n → Recalled D floor ls (replicate n 0)
-recalled-start D floor ls n h = record {
-  wide = omega (arith, h, length-replicate {A = ℕ} n 0);
-  place = λ k z. absurd (z (zero_word n k));
-  below = λ k z. absurd (z (zero_word n k));
-}
-
-pub recalled-same : {D : Deck} {floor : List ℕ} {ls ms : List (List ℕ)} {known : List ℕ} → Recalled D floor ls known → ls ≡ ms → Recalled D floor ms known
-recalled-same {D} {floor} {known = known} R e = subst (λ (l : List (List ℕ)). Recalled D floor l known) e R
-
 pub recalled-reach : {D : Deck} {floor : List ℕ} {ls : List (List ℕ)} {known : List ℕ} → Recalled D floor ls known → (k el : ℕ) → k < class_count D → el ≡ index_of ls (row_label D floor k)
     → {ms : List (List ℕ)} → ms ≡ interned ls (row_label D floor k) → {next : List ℕ} → next ≡ set known k (el + 1) → Recalled D floor ms next
 recalled-reach {D} {floor} {ls} {known} R k el h p {ms} q {next} e = rw (q, e) (record { wide = omega (arith, R.wide, length-set known k (el + 1)); place = place; below = below })
@@ -152,12 +139,6 @@ recall-link {a} {known = known} P R role x k n q L =
     let at : n ≡ index_of (model_of a).labels l = omega (arith, q, R.place k z) in
     let I = placed-known (label_width D) a.tally.elements a.labels.now l (all_fit P) n at (omega (arith, q, R.below k z, length-rows (label_width D) a.tally.elements a.labels.now)) in
     record { same = L.same; built = rw (L.label, L.labels) (reach-linked P (length-row-label D a.plan.floor.now k) I P.label-wide role x L.left) }
-
--- what a step that adds edges and reasons alone leaves
-pub recalls-pushed : {a c : Build} {r : Bool} {s : State} {known : List ℕ} → Recalls a a known → Pushed a c r s → Recalls a c known
-recalls-pushed {a} {c} R L =
-    recalled-same R
-    (ap (λ (n : ℕ). rows_of (label_width (deck_in a)) n a.labels.now) (sym L.left.elements) ∙ ap (λ (w : MutBor (List ℕ)). rows_of (label_width (deck_in a)) c.tally.elements w.now) (sym L.labels))
 
 -- an element's number is small
 pub place-small : {s : List ℕ} {B : Bounds} {b : Buffers} {t : Tally} {floor label : List ℕ} → Prepared s B b t floor label → (l : List ℕ) {el : ℕ} → el ≡ index_of (rows_of (label_width (deck_of s)) t.elements b.labels) l → el < 65536
