@@ -1,15 +1,5 @@
--- What judging works with: a structure that fits its deck, an index of its edges, and the judgements remembered so far.
+-- The room that judging works in: of the index of the edges, and of the judgements remembered so far.
 use Rattle.std.specs.Prelude.{ℕ, ◌<◌, ◌≤◌, ◌≡◌, List, length, get_or}
-use Rattle.deck.specs.Content.{deck_of}
-use Rattle.eval.specs.declared.shape.Shape.{Shape}
-use Rattle.eval.specs.Lent.{Fits, structure_of}
-use Rattle.eval.specs.Index.{Indexed}
-use Rattle.eval.specs.Memo.{Remembers}
-
-pub record Equipped (s labels : List ℕ) (rows : List (List ℕ)) (shape : Shape) (index memo : List ℕ) : Type 0 where
-  pub fits : Fits s labels rows shape
-  pub indexed : Indexed rows shape.elements shape.edges index
-  pub remembers : Remembers (deck_of s) (structure_of (deck_of s) labels rows shape) memo
 
 -- a table that remembers nothing yet
 pub record Blank (memo : List ℕ) : Type 0 where
