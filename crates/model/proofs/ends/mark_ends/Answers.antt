@@ -11,10 +11,6 @@ use Rattle.eval.specs.Leaving.{left, leaving}
 use Rattle.model.proofs.EndsLaws.{marking-start, marking-skip, marking-take, marking-end, leaving-to}
 use Rattle.model.proofs.ends.mark_ends.Goals as goal
 
-pub clear_first-requires : goal.clear_first-requires
-clear_first-requires c =
-    omega (arith, c.requires.elements_in_bounds)
-
 pub loop-e-init : goal.loop-e-init
 loop-e-init c =
     let a = c.args in
