@@ -1,13 +1,10 @@
 -- The rule of an axiom: by its tag and role words, and its roles are in range.
-use Prim.Native.Nat.{ℕ, ◌/◌, ◌<◌}
-use mathlib.Core.Bool.{true, false}
+use Prim.Native.Nat.{ℕ, ◌<◌}
 use mathlib.Core.Path.{◌≡◌, refl, ap, ◌∙◌}
 use mathlib.Core.List.{List, [], ◌∷◌, map, Memᴰ as Member}
 use native.Mathlib.Omega.{arith}
 use lib.ListN.{length, get_or}
 use Rattle.deck.specs.declared.axioms.AxiomRecord.{AxiomRecord}
-use Rattle.deck.specs.declared.numbers.RoleId.{RoleId}
-use Rattle.deck.specs.Numbers.{inverse_word}
 use Rattle.deck.specs.Deck.{Deck, Role, role_of, role_id, Axiom, axiom_at, axiom_count, concept_count, role_count}
 use Rattle.deck.specs.Content.{list_at, deck_of, axiom_of, make_axiom}
 use Rattle.deck.specs.Reads.{AxiomRead, Within}
@@ -16,26 +13,7 @@ use Rattle.deck.proofs.CaseLaws.{Cases, case_at}
 use Rattle.eval.proofs.ListLaws.{position}
 use Rattle.std.specs.Prelude.{Option, Some, None, IfSome}
 use Rattle.model.specs.declared.rules.Rule.{Rule}
-use Rattle.model.specs.Rules.{compose, links, chain_rule, rule_of, RuleFits}
-
--- ---- three role words
-module _ (a b v : ℕ) where
-  pub links-first : inverse_word a ≡ true → None ≡ links (role_of a) (role_of b) (role_of v)
-  links-first h = rw h
-
-  pub links-second : inverse_word a ≡ false → inverse_word b ≡ true → None ≡ links (role_of a) (role_of b) (role_of v)
-  links-second h k = rw (h, k)
-
-  pub links-third : inverse_word a ≡ false → inverse_word b ≡ false → inverse_word v ≡ true → None ≡ links (role_of a) (role_of b) (role_of v)
-  links-third h k l = rw (h, k, l)
-
-  links-named : inverse_word a ≡ false → inverse_word b ≡ false → inverse_word v ≡ false → compose (a / 2) (b / 2) (v / 2) ≡ links (role_of a) (role_of b) (role_of v)
-  links-named h k l = rw (h, k, l)
-
-  pub links-made : inverse_word a ≡ false → inverse_word b ≡ false → inverse_word v ≡ false → {p q r : RoleId} → p.0 ≡ a / 2 → q.0 ≡ b / 2 → r.0 ≡ v / 2
-      → Some (record { first = p; second = q; third = r }) ≡ links (role_of a) (role_of b) (role_of v)
-  links-made h k l {p} {q} {r} e f g =
-      ap (λ (x : ℕ). compose x q.0 r.0) e ∙ ap (λ (y : ℕ). compose (a / 2) y r.0) f ∙ ap (λ (z : ℕ). compose (a / 2) (b / 2) z) g ∙ links-named h k l
+use Rattle.model.specs.Rules.{links, chain_rule, rule_of, RuleFits}
 
 -- ---- a list of role words
 pub chain-two : (l : List ℕ) (v : Role) → length l ≡ 2 → links (role_of (get_or l 0 0)) (role_of (get_or l 1 0)) v ≡ chain_rule (map role_of l) v

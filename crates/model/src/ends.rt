@@ -11,7 +11,6 @@ ghost use Rattle.model.specs.Ends.{Ends, is_new};
 use atoms::labels::{after, clear_first, from_bit, insert_bit};
 use deck::Deck;
 use deck::numbers::{Element, RoleId};
-use eval::edges::is_sub_role;
 use eval::index::EdgeIndex;
 
 // Room for the ends that closing has ahead from an element, and for those that are known.
@@ -31,9 +30,10 @@ pub fn mark_ends(deck: &Deck<'_>, all: &EdgeIndex<'_>, r: RoleId, x: Element, bi
     requires elements_in_bounds { all.now.elements ≤ length bits.old * 64 }
     ensures { Ends (deck_of deck.now.bytes.now) all.now.elements (edges_of all.now.edges.now all.now.count) r.0 x.0 bits.new }
 {
+    let row = deck.sub_roles(r);
     clear_first(bits, (all.elements as usize + 63) / 64);
     for e in all.leaving(x) {
-        if is_sub_role(deck, e, r) {
+        if deck.row_has(row, e.role.0) {
             insert_bit(bits, e.to.0);
         }
     }

@@ -11,10 +11,6 @@ use Rattle.eval.specs.Leaving.{left, leaving}
 use Rattle.model.proofs.EndsLaws.{marking-start, marking-skip, marking-take, marking-end, leaving-to}
 use Rattle.model.proofs.ends.mark_ends.Goals as goal
 
-pub clear_first-requires : goal.clear_first-requires
-clear_first-requires c =
-    omega (arith, c.requires.elements_in_bounds)
-
 pub loop-e-init : goal.loop-e-init
 loop-e-init c =
     let a = c.args in
@@ -29,8 +25,8 @@ insert_bit-requires c =
     let f : e.to.0 < a.all.now.elements = leaving-to (deck_of a.deck.now.bytes.now) a.all.now.elements (edges_of a.all.now.edges.now a.all.now.count) a.r.0 a.x.0 c.requires.edges_fit (length c.loop-e.yielded) c.loop-e.bits e t.0 (sym t.1) in
     omega (arith, f, c.loop-e.invariant.0, c.clear_first.auto.words, c.requires.elements_in_bounds)
 
-pub loop-e-preserved-then-is_sub_role : goal.loop-e-preserved-then-is_sub_role
-loop-e-preserved-then-is_sub_role c =
+pub loop-e-preserved-then-row_has : goal.loop-e-preserved-then-row_has
+loop-e-preserved-then-row_has c =
     let a = c.args in
     let D = deck_of a.deck.now.bytes.now in
     let E = edges_of a.all.now.edges.now a.all.now.count in
@@ -38,7 +34,7 @@ loop-e-preserved-then-is_sub_role c =
     let e = c.in-Some.e in
     let t = YieldsList-turn (YieldsList-from_first (λ (e : Edge). e) left es (cc)) c.loop-e.yielded _ c.loop-e.yielded_by _ c.next.new.self e c.in-Some.is c.next.ensures.steps in
     let f : e.to.0 < a.all.now.elements = leaving-to D a.all.now.elements E a.r.0 a.x.0 c.requires.edges_fit (length c.loop-e.yielded) c.loop-e.bits e t.0 (sym t.1) in
-    (c.insert_bit.auto.words ∙ c.loop-e.invariant.0, rw (length_push c.loop-e.yielded e, c.insert_bit.ensures) (marking-take D a.all.now.elements E a.r.0 a.x.0 c.requires.edges_fit (length c.loop-e.yielded) c.loop-e.bits e t.0 (sym t.1) (sym c.is_sub_role.ensures ∙ c.if-is_sub_role.true) (omega (arith, f, c.loop-e.invariant.0, c.clear_first.auto.words, c.requires.elements_in_bounds)) c.loop-e.invariant.1))
+    (c.insert_bit.auto.words ∙ c.loop-e.invariant.0, rw (length_push c.loop-e.yielded e, c.insert_bit.ensures) (marking-take D a.all.now.elements E a.r.0 a.x.0 c.requires.edges_fit (length c.loop-e.yielded) c.loop-e.bits e t.0 (sym t.1) (rw c.sub_roles-row.ensures.is at (sym c.row_has.ensures ∙ c.if-row_has.true)) (omega (arith, f, c.loop-e.invariant.0, c.clear_first.auto.words, c.requires.elements_in_bounds)) c.loop-e.invariant.1))
 
 pub loop-e-preserved : goal.loop-e-preserved
 loop-e-preserved c =
@@ -49,7 +45,7 @@ loop-e-preserved c =
     let e = c.in-Some.e in
     let t = YieldsList-turn (YieldsList-from_first (λ (e : Edge). e) left es (cc)) c.loop-e.yielded _ c.loop-e.yielded_by _ c.next.new.self e c.in-Some.is c.next.ensures.steps in
     rw (length_push c.loop-e.yielded e)
-    (c.loop-e.invariant.0, marking-skip D a.all.now.elements E a.r.0 a.x.0 c.requires.edges_fit (length c.loop-e.yielded) c.loop-e.bits e t.0 (sym t.1) (sym c.is_sub_role.ensures ∙ c.if-is_sub_role.false) c.loop-e.invariant.1)
+    (c.loop-e.invariant.0, marking-skip D a.all.now.elements E a.r.0 a.x.0 c.requires.edges_fit (length c.loop-e.yielded) c.loop-e.bits e t.0 (sym t.1) (rw c.sub_roles-row.ensures.is at (sym c.row_has.ensures ∙ c.if-row_has.false)) c.loop-e.invariant.1)
 
 pub returns : goal.returns
 returns c =

@@ -1,10 +1,6 @@
 use mathlib.Core.Path.{◌∙◌}
-use Rattle.model.proofs.RuleLaws.{chain-within, rule-read, rule-read-at, chain-rule, transitive-rule, no-rule}
+use Rattle.model.proofs.RuleLaws.{rule-read, rule-read-at, chain-rule, transitive-rule, no-rule}
 use Rattle.model.proofs.rules.rule_at.Goals as goal
-
-pub chain_rule-requires : goal.chain_rule-requires
-chain_rule-requires c =
-    record { within = chain-within c.axiom_at-record.ensures c.in-5.is }
 
 pub returns-in-5 : goal.returns-in-5
 returns-in-5 c =

@@ -13,10 +13,6 @@ pub returns-then-rest-eq1 : goal.returns-then-rest-eq1
 returns-then-rest-eq1 c =
     new-here _ _ _ c.loop-i.i c.loop-i.invariant.1 (c.from_bit-rest.ensures ∙ ap (λ (m : ℕ). m / 2 ^ (c.loop-i.i % 64)) c.without.ensures) _ c.loop-i.invariant.0 (omega arith) c.if-rest-eq1.true
 
-pub after-i-requires : goal.after-i-requires
-after-i-requires c =
-    omega (arith, c.requires)
-
 pub loop-i-smaller : goal.loop-i-smaller
 loop-i-smaller c =
     omega (arith, pass_on c.from_bit-rest.ensures c.loop-i.i c.after-i.ensures)
