@@ -115,7 +115,7 @@ fn next_class(b: &Build<'_, '_>, facts: &FactIndex<'_>, e: Element, k: u32) -> O
     facts.next_class(label_at(&deck, b.labels, b.tally.elements, e), k)
 }
 
-// The classes of e, rising: from one that has a fact to the next.
+// The classes of e, rising: from one that has a fact to the next. A `while`, as an iterator would keep the labels lent.
 fn work_classes(
     b: &mut Build<'_, '_>,
     known: &mut [u32],
