@@ -8,7 +8,7 @@ ghost use Rattle.model.specs.Pairs.{key_of, EndsFit};
 
 use deck::Deck;
 use deck::numbers::{Element, RoleId};
-use eval::edges::{Edge, edge_at, is_sub_role, read_edge};
+use eval::edges::{Edge, edge_at, is_sub_role};
 use eval::index::{EdgeIndex, walk_of};
 
 // The pairs of a role among the first `seen` edges. The index may have more of them, which were added since.
@@ -118,6 +118,6 @@ pub fn count_pairs(deck: &Deck<'_>, edges: &[[u32; 3]], count: u32, r: RoleId) -
 {
     edges[..count as usize]
         .iter()
-        .filter(|row| is_sub_role(deck, read_edge(row), r))
+        .filter(|row| is_sub_role(deck, Edge::from(row), r))
         .count()
 }
