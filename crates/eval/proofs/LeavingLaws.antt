@@ -48,15 +48,15 @@ module _ (rows : List (List ℕ)) (n : ℕ) (k : n ≤ length rows) (x : ℕ) wh
   pub leaving-end : (i : ℕ) → n ≤ i → leaving x (drop i (edges_of rows n)) ≡ []
   leaving-end i h = rw (drop_of_length-le (edges_of rows n) {i = i} (omega (arith, edges-length rows n k)))
 
--- a test that only edges from x pass
-pub any-leaving : (p : Edge → Bool) (x : ℕ) → ((e : Edge) → (e.from.0 ≡ x → ⊥) → p e ≡ false) → (es : List Edge) → list_any p (leaving x es) ≡ any (map p es)
+-- a test q of edges from x that says what p says, where only edges from x pass p
+pub any-leaving : (q p : Edge → Bool) (x : ℕ) → ((e : Edge) → e.from.0 ≡ x → q e ≡ p e) → ((e : Edge) → (e.from.0 ≡ x → ⊥) → p e ≡ false) → (es : List Edge) → list_any q (leaving x es) ≡ any (map p es)
 unfolding any
-any-leaving p x off [] = refl
-any-leaving p x off (e ∷ es) = go (eqb e.from.0 x) refl (any-leaving p x off es)
+any-leaving q p x on off [] = refl
+any-leaving q p x on off (e ∷ es) = go (eqb e.from.0 x) refl (any-leaving q p x on off es)
   where
-    go : (b : Bool) → eqb e.from.0 x ≡ b → list_any p (leaving x es) ≡ any (map p es) → list_any p (cond b (e ∷ leaving x es) (leaving x es)) ≡ (p e || any (map p es))
-    go true q h = ap (λ b. p e || b) h
-    go false q h = rw (off e (eqb-false e.from.0 x q)) h
+    go : (b : Bool) → eqb e.from.0 x ≡ b → list_any q (leaving x es) ≡ any (map p es) → list_any q (cond b (e ∷ leaving x es) (leaving x es)) ≡ (p e || any (map p es))
+    go true k h = rw (on e (eqb-true e.from.0 x k)) (ap (λ b. p e || b) h)
+    go false k h = rw (off e (eqb-false e.from.0 x k)) h
 
 filter-in : {A : Type 0} (p : A → Bool) (xs : List A) (a : A) → Member a xs → p a ≡ true → Member a (filter p xs)
 filter-in p [] a m e = absurd (nothing-in m)

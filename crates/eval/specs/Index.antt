@@ -70,14 +70,6 @@ pub record Jumped (rows : List (List ℕ)) (n count : ℕ) (index : List ℕ) (x
   pub gap : Gap rows x i w.at
   pub ahead : Ahead rows n index x w.at w.run
 
--- from edge i on to the next that leaves x, or to the end
-pub record Advanced (rows : List (List ℕ)) (n count : ℕ) (index : List ℕ) (x i : ℕ) (w : Walk) : Type 0 where
-  pub on : i ≤ w.at
-  pub within : w.at ≤ count
-  pub gap : Gap rows x i w.at
-  pub ahead : Ahead rows n index x w.at w.run
-  pub here : w.at < count → from_at rows w.at ≡ x
-
 -- ---- making an index, from the last edge down
 -- run h starts just after edge i, and leaves the same element
 pub record Follows (rows : List (List ℕ)) (n : ℕ) (index : List ℕ) (h i : ℕ) : Type 0 where

@@ -67,14 +67,6 @@ pub fn leaves_by(deck: &Deck<'_>, e: Edge, r: RoleId, x: Element) -> bool
     e.from == x && is_sub_role(deck, e, r)
 }
 
-// Does the edge go from x to y by r?
-fn goes_by(deck: &Deck<'_>, e: Edge, r: RoleId, x: Element, y: Element) -> bool
-    requires r_bound { r.0 < role_count (deck_of deck.now.bytes.now) }
-    ensures { result ≡ goes (deck_of deck.now.bytes.now) r.0 x.0 y.0 e }
-{
-    e.from == x && e.to == y && is_sub_role(deck, e, r)
-}
-
 impl Judging<'_> {
     // Is (x, y) a pair of the role word?
     pub fn has_pair(&self, word: RoleWord, x: Element, y: Element) -> bool
@@ -97,6 +89,6 @@ impl Judging<'_> {
         ensures { result ≡ linked (deck_in self.now.lent) (edges_in self.now.lent) r.0 x.0 y.0 }
     {
         self.leaving(x)
-            .any(|e| goes_by(&self.lent.deck, e, r, x, y))
+            .any(|e| e.to == y && is_sub_role(&self.lent.deck, e, r))
     }
 }

@@ -19,24 +19,26 @@ pub struct Leaving<'a> {
 impl<'a> EdgeIndex<'a> {
     ghost use Rattle.std.specs.Prelude.{◌≡◌, ◌<◌};
     ghost use Rattle.eval.specs.Edges.{edges_of};
-    ghost use Rattle.eval.specs.Index.{Advanced};
-    ghost use Rattle.eval.specs.Leaving.{leaving, left};
+    ghost use Rattle.eval.specs.Leaving.{leaving, left, Steps};
 
-    // The walk at the next edge that leaves x, or at the end. A `while`, as it goes on by jumps and not edge by edge.
-    fn advance(&self, x: Element, walk: Walk) -> Walk
+    // The next edge that leaves x, and the walk after it. A `while`, as it goes on by jumps and not edge by edge.
+    #[inline(always)]
+    fn step(&self, x: Element, walk: Walk) -> Option<(Edge, Walk)>
         requires at_in_bounds { walk.at ≤ self.now.count }
         requires ahead { Ahead self.now.edges.now self.now.elements self.now.index.now x.0 walk.at walk.run }
-        ensures { Advanced self.now.edges.now self.now.elements self.now.count self.now.index.now x.0 walk.at result }
+        ensures { Steps self.now x.0 walk.at result }
     {
         let count = self.count as usize;
         let mut w = walk;
         while w.at < count {
-            if edge_at(self.edges, w.at).from == x {
-                return w;
+            let e = edge_at(self.edges, w.at);
+            if e.from == x {
+                let run = w.run;
+                return Some((e, Walk { at: w.at + 1, run }));
             }
             w = self.jump(x, w);
         }
-        w
+        None
     }
 
     pub fn leaving(&self, x: Element) -> Leaving<'a>
@@ -87,16 +89,8 @@ impl Iterator for Leaving<'_> {
     ghost remaining = { item_count left };
 
     fn next(&mut self) -> Option<Edge> {
-        let w = self.of.advance(self.x, self.walk);
-        if w.at < self.of.count as usize {
-            let e = edge_at(self.of.edges, w.at);
-            self.walk = Walk {
-                at: w.at + 1,
-                run: w.run,
-            };
-            return Some(e);
-        }
-        self.walk = w;
-        None
+        let (e, walk) = self.of.step(self.x, self.walk)?;
+        self.walk = walk;
+        Some(e)
     }
 }

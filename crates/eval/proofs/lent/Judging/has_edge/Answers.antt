@@ -1,10 +1,12 @@
-use mathlib.Core.Path.{◌∙◌}
-use borrow.Author.Tests.{tests}
+use mathlib.Core.Bool.{◌&&◌}
+use mathlib.Core.Path.{refl, ◌∙◌}
+use lib.Dec.{eqb}
+use borrow.Author.Tests.{tests, eq-eqb}
 use Rattle.std.proofs.Common.{rules}
 use Rattle.std.proofs.lemmas.Iterator.Consumers.{YieldsList-from_first}
 use Rattle.std.proofs.lemmas.Iterator.Search.{any_from_yields_List}
 use Rattle.eval.specs.declared.edges.Edge.{Edge}
-use Rattle.eval.specs.Edges.{goes, linked}
+use Rattle.eval.specs.Edges.{goes, linked, under}
 use Rattle.eval.specs.Leaving.{left, leaving}
 use Rattle.eval.specs.InLent.{deck_in, edges_in}
 use Rattle.eval.proofs.IndexLaws.{goes-off}
@@ -17,6 +19,7 @@ returns c =
     let a = c.args in
     let D = deck_in a.self.now.lent in
     let p = goes D a.r.0 a.x.0 a.y.0 in
+    let q = λ (e : Edge). eqb e.to.0 a.y.0 && under D a.r.0 e in
     let es = edges_in a.self.now.lent in
-    any_from_yields_List p c.any.new.self _ _ c.any.ensures.ran (YieldsList-from_first (λ (e : Edge). e) left (leaving a.x.0 es) c.leaving.ensures) (λ x b q k. search (rules, tests))
-    ∙ any-leaving p a.x.0 (λ e d. goes-off D a.r.0 a.x.0 e d a.y.0) es
+    any_from_yields_List q c.any.new.self _ _ c.any.ensures.ran (YieldsList-from_first (λ (e : Edge). e) left (leaving a.x.0 es) c.leaving.ensures) (λ x b q k. search (rules, tests))
+    ∙ any-leaving q p a.x.0 (λ e h. rw (eq-eqb _ _ h) refl) (λ e d. goes-off D a.r.0 a.x.0 e d a.y.0) es
