@@ -2,6 +2,7 @@
 --     work-idle                             a consequent that adds nothing
 --     adds-and, …, adds-other               whether a concept that was read may add something
 --     pair-idle, from-idle                  members of EquivalentClasses
+--     any-members, found-member             what a chain over the members of a list finds
 --     needs-atomic, needs-and, needs-operand    a class that an antecedent needs
 --     sub-needs, …, pair-both               an axiom's trigger
 --     IdleFrom, entry-of, table_more        the table's entries
@@ -38,7 +39,7 @@ use Rattle.deck.specs.declared.rows.Span.{Span}
 use Rattle.deck.specs.declared.axioms.AxiomRecord.{AxiomRecord}
 use Rattle.deck.specs.Deck.{Deck, Concept, Role, Axiom, class_count, concept_at, axiom_count, axiom_at}
 use Rattle.deck.specs.Content.{IsAccepted, deck_of}
-use Rattle.deck.specs.Reads.{ConceptRead, expr_of, list_of, ListFits, AxiomRead}
+use Rattle.deck.specs.Reads.{ConceptRead, expr_of, list_of, AxiomRead}
 use Rattle.deck.proofs.CaseLaws.{lt-or-le}
 use Rattle.eval.specs.Lists.{every, any}
 use Rattle.eval.specs.Lent.{label_width}
@@ -211,9 +212,6 @@ found-member {g = g} {f = f} n Q (Some y) d k h = by (d.0.at d.2.0) (d.2.3 k).0 
     by (Some x) a b = h x y (rw d.1 at b.1) a
 
 -- ---- a class that an antecedent needs
-pub list-wider : {s : List ℕ} {c n : ℕ} {l : Span} → ListFits s c l → c < n → ListFits s n l
-list-wider F h = record { within = F.within; below = λ i b. omega (arith, F.below i b, h) }
-
 module _ (s : List ℕ) (A : IsAccepted s) (c : ℕ) {expr : ConceptExpr} (R : ConceptRead s c expr) where
   pub needs-atomic : (k : ClassId) → expr ≡ ConceptExpr.Atomic k → Needs (deck_of s) (λ label. holds_atoms (deck_of s) label c) k
   needs-atomic k p = record { known = fits_read s A c R _ p; lacks = λ label w. sym (holds-atomic s A c R label k.0 p) ∙ w }
@@ -290,9 +288,6 @@ pub record IdleFrom (D : Deck) (i n : ℕ) : Type 0 where
   pub within : i + n ≤ axiom_count D
   pub never : (k : ℕ) → i ≤ k → k < i + n → Idle D (axiom_at D k)
 
-pub idle-none : {D : Deck} {n : ℕ} → n ≡ axiom_count D → IdleFrom D n 0
-idle-none e = record { within = omega (arith, e); never = λ k p q. absurd (omega (arith, p, q)) }
-
 pub idle-entry : {D : Deck} {i w : ℕ} → Entry D i w → IdleFrom D i (w - 4096)
 idle-entry E = record { within = E.within; never = E.never }
 
@@ -308,9 +303,6 @@ entry-of {i = i} Trigger.Never c b T I = record {
 }
 
 module _ {D : Deck} {table : List ℕ} where
-  pub table_empty : length table ≡ axiom_count D → {n : ℕ} → n ≡ axiom_count D → Triggers D table n
-  table_empty h c = record { wide = h; at = λ k p q. absurd (omega (arith, c)) }
-
   -- one more entry in front
   pub table_more : {i w : ℕ} → Triggers D table (i + 1) → i < axiom_count D → Entry D i w → Triggers D (set table i w) i
   table_more {i} {w} T b E = record {

@@ -225,9 +225,7 @@ fn rounds_of<const N: usize>(b: &mut Build<'_, '_>, sizes: &[u8]) -> Result<(), 
 {
     let mut table: [u32; N] = [0; N];
     let deck = b.plan.deck;
-    let triggers = &mut table[..deck.axiom_count() as usize];
-    read_triggers(&deck, triggers);
-    rounds_by(b, triggers, sizes)
+    rounds_by(b, read_triggers(&deck, &mut table), sizes)
 }
 
 // Rounds with a table of sizes, as far as it reaches. A table of few triggers costs little to clear.

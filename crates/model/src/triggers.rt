@@ -177,16 +177,19 @@ fn trigger_of(deck: &Deck, axiom: u32) -> Trigger
 }
 
 // The table of all axioms, a word for each.
-pub fn read_triggers(deck: &Deck, table: &mut [u32])
-    requires { length table.old ≡ axiom_count (content deck.now) }
-    ensures { Triggers (content deck.now) table.new 0 }
+pub fn read_triggers<'t>(deck: &Deck, room: &'t mut [u32]) -> &'t [u32]
+    requires { axiom_count (content deck.now) ≤ length room.old }
+    ensures { Triggers (content deck.now) result.now 0 }
 {
+    let count = deck.axiom_count();
+    let table = &mut room[..count as usize];
     let mut never = 0;
-    for i in (0..deck.axiom_count()).rev() {
+    for i in (0..count).rev() {
         let word = trigger_of(deck, i).word(never);
         table[i as usize] = word;
         never = word.saturating_sub(4096);
     }
+    table
 }
 
 // The next axiom, from the first on, that may add something at an element of this label. No `for`: a word may pass over many.
