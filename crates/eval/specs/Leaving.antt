@@ -1,5 +1,5 @@
 -- The edges that leave an element, in the order of the list, and those that an iterator over them has left.
-use Rattle.std.specs.Prelude.{ℕ, ◌≤◌, ◌≡◌, ◌×◌, List, [], ◌∷◌, Option, None, Some, eqb}
+use Rattle.std.specs.Prelude.{ℕ, ◌≤◌, ◌≡◌, List, [], ◌∷◌, Option, None, Some, eqb}
 use Rattle.std.specs.List.{filter}
 use lib.ListN.{drop}
 use Rattle.eval.specs.declared.edges.Edge.{Edge}

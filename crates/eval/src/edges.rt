@@ -2,7 +2,7 @@
 ghost use Rattle.std.specs.Prelude.{◌≡◌, [], ◌*◌, ◌<◌, length, get_or};
 ghost use Rattle.deck.specs.Content.{deck_of};
 ghost use Rattle.deck.specs.Deck.{role_count, role_of};
-ghost use Rattle.eval.specs.Edges.{edge_of, goes, leaves, linked, linked_by, turned, under};
+ghost use Rattle.eval.specs.Edges.{edge_of, leaves, linked, linked_by, turned, under};
 ghost use Rattle.eval.specs.InLent.{deck_in, edges_in};
 
 use crate::lent::Judging;

@@ -13,7 +13,6 @@ ghost use Rattle.model.specs.Run.{verdicts_of, words_in};
 use crate::outcome::Outcome;
 use deck::Deck;
 use eval::equip::is_small;
-use eval::index::make_index;
 use eval::lent::{Judging, Lent};
 use eval::shape::Shape;
 use eval::verdict::Verdict;
@@ -77,17 +76,7 @@ fn judge_in_room<const I: usize, const M: usize>(lent: &Lent, verdicts: &mut [u3
 {
     let mut index: [u32; I] = [0; I];
     let mut memo: [u16; M] = [0; M];
-    make_index(
-        lent.edges,
-        lent.shape.edges,
-        lent.shape.elements,
-        &mut index,
-    );
-    let judging = Judging {
-        lent: *lent,
-        index: &index,
-    };
-    judge_each(&judging, &mut memo, verdicts)
+    judge_each(&lent.indexed(&mut index), &mut memo, verdicts)
 }
 
 // Does the least room do? What is judged does not depend on it.

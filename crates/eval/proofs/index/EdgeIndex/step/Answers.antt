@@ -1,25 +1,27 @@
-use Rattle.std.proofs.Common.{rules, ◌≤◌, ◌≡◌, ◌<◌, ℕ, ◌+◌, ◌-◌, ◌*◌, length, ◌/◌, ◌%◌, Bool, true, false, nat_eq, nat_lt, List, [], ◌∷◌, ◌++◌, slice_index_or, slice_set, bit_and, bit_or, Fits, w8, w32, w64, Bor, MutBor}
-use Rattle.eval.specs.Index.{Ahead}
+use mathlib.Core.Path.{◌≡◌, sym, ap, ◌∙◌}
+use lib.ListN.{drop}
+use mathlib.Core.List.{◌∷◌}
+use borrow.Author.Tests.{eqb-true}
+use Prim.Native.Nat.{◌+◌}
+use Rattle.eval.specs.declared.edges.Edge.{Edge}
 use Rattle.eval.specs.Edges.{edges_of}
-use Rattle.eval.specs.Leaving.{leaving, left, Steps}
+use Rattle.eval.specs.Leaving.{leaving}
+use native.Mathlib.Omega.{arith}
+use Rattle.eval.specs.Index.{Ahead}
+use Rattle.eval.proofs.LeavingLaws.{leaving-here, leaving-skip, leaving-end}
 use Rattle.eval.proofs.index.EdgeIndex.step.Goals as goal
 
--- src/leaving.rt:33:9
-pub loop-w-init : goal.loop-w-init
-loop-w-init c = ?
-
--- src/leaving.rt:37:17
 pub returns-then-eq : goal.returns-then-eq
-returns-then-eq c = ?
+returns-then-eq c =
+    let a = c.args in
+    let s = a.self.now in
+    let w = c.loop-w.w in
+    let I = c.loop-w.invariant in
+    (leaving-skip s.edges.now s.count s.within a.x.0 a.walk.at w.at I.0 I.1 I.2 ∙ leaving-here s.edges.now s.count s.within a.x.0 w.at c.loop-w-test.true (ap (λ (e : Edge). e.from.0) (sym c.edge_at-e.ensures) ∙ eqb-true _ _ (sym c.eq.ensures ∙ c.if-eq.true)) ∙ ap (λ e. e ∷ leaving a.x.0 (drop (w.at + 1) (edges_of s.edges.now s.count))) (sym c.edge_at-e.ensures), omega (arith, c.loop-w-test.true), record { fits = I.3.fits; once = λ j h. I.3.once j (omega (arith, h)) })
 
--- src/leaving.rt:39:13
-pub jump-w-requires-clause-ahead : goal.jump-w-requires-clause-ahead
-jump-w-requires-clause-ahead c = ?
-
--- src/leaving.rt:33:9
-pub loop-w-preserved : goal.loop-w-preserved
-loop-w-preserved c = ?
-
--- src/leaving.rt:25:5
 pub returns : goal.returns
-returns c = ?
+returns c =
+    let a = c.args in
+    let s = a.self.now in
+    let I = c.loop-w.invariant in
+    leaving-skip s.edges.now s.count s.within a.x.0 a.walk.at c.loop-w.w.at I.0 I.1 I.2 ∙ leaving-end s.edges.now s.count s.within a.x.0 c.loop-w.w.at c.loop-w-test.false
