@@ -54,7 +54,7 @@ module _ (D : Deck) (n : ℕ) (es : List Edge) (r x : ℕ) where
   unfolding linked label_has
   marking-start bits words h zero-at = record {
     has = λ (z : ℕ) (l : z < n).
-        sym (rw (zero-at (z / 64) (omega (arith, l, h)), zero-div (2 ^ (z % 64))) (any-leaving (goes D r x z) x (λ e d. goes-off D r x e d z) es));
+        sym (rw (zero-at (z / 64) (omega (arith, l, h)), zero-div (2 ^ (z % 64))) (any-leaving (goes D r x z) (goes D r x z) x (λ e h. refl) (λ e d. goes-off D r x e d z) es));
   }
 
   module _ (F : EdgesFit D n es) (i : ℕ) (bits : List ℕ) (e : Edge) (l : i < length (leaving x es)) (is : get_or (leaving x es) i e ≡ e) where

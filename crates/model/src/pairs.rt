@@ -118,6 +118,6 @@ pub fn count_pairs(deck: &Deck<'_>, edges: &[[u32; 3]], count: u32, r: RoleId) -
 {
     edges[..count as usize]
         .iter()
-        .filter(|row| is_sub_role(deck, Edge::from(row), r))
+        .filter(|row| is_sub_role(deck, Edge::from(*row), r))
         .count()
 }

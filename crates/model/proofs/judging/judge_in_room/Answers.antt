@@ -6,4 +6,4 @@ pub judge_each-requires-clause-remembered : goal.judge_each-requires-clause-reme
 judge_each-requires-clause-remembered r c =
     let L = c.args.lent.now in
     let z = blank r.row.M c.requires.room.table_some in
-    fresh-memo (deck_in L) (structure L) _ z.room z.zero
+    rw c.indexed.ensures (fresh-memo (deck_in L) (structure L) _ z.room z.zero)
