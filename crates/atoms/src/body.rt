@@ -94,7 +94,7 @@ fn join_atoms(
     }
 }
 
-// The same of each concept of the list, all below `owner`. Each walk has its own such loop (here, in occurrences.rt and in visits.rt): a
+// The same of each concept of the list, all below `owner`. Each walk has its own such loop (here, in occurrences.rt, short.rt and visits.rt, and in build's exists.rt): a
 // shared one would take the step as a closure, and a closure in a cycle of calls wants the step's whole contract written again.
 #[cycle(join_atoms_join_operands_atoms)]
 fn join_operands_atoms(

@@ -57,6 +57,7 @@ fn join_rest(deck: &Deck, owner: ConceptId, list: Span, first: u32, label: &mut 
 }
 
 // The same of the whole list: marks only from the first And on.
+// A loop of its own beside `operands_answer`: of both, the step would be a closure whose contract tells what the label has taken in, or what was answered.
 fn join_operands(deck: &Deck, owner: ConceptId, list: Span, label: &mut [u64])
     requires owner_bound { owner.0 < concept_count (content deck.now) }
     requires list_fits { ListFits deck.now.bytes.now owner.0 list }
@@ -86,6 +87,7 @@ pub fn join_required_atoms(deck: &Deck, concept: ConceptId, label: &mut [u64])
 }
 
 // Is a member universal?
+// This and the like of model's triggers.rt stay: each is one line, and one of all would take that line as a closure.
 fn any_universal(deck: &Deck, list: Span) -> bool
     requires list_fits { ListFits deck.now.bytes.now (concept_count (content deck.now)) list }
     ensures { result ≡ any (map (universal (content deck.now)) (list_of deck.now.bytes.now list)) }
@@ -157,6 +159,7 @@ fn join_axiom(deck: &Deck, axiom: u32, label: &mut [u64])
 }
 
 // The floor: the rows that all axioms give.
+// `load_facts` of build is alike and stays: two lines, over another part of a deck.
 pub fn compute_top_floor(deck: &Deck, floor: &mut [u64])
     requires floor_len { length floor.old ≡ label_width (content deck.now) }
     ensures { floor.new ≡ floor_label (content deck.now) }

@@ -65,6 +65,7 @@ pub fn label_at<'a>(deck: &Deck, labels: &'a [u64], elements: u32, e: Element) -
 }
 
 // The first n words become 0.
+// How many stays beside them, as a room may be longer than what is used of it.
 pub fn clear_first(words: &mut [u64], n: usize)
     requires { n ≤ length words.old }
     ensures { (k : ℕ) → k < n → get_or words.new k 0 ≡ 0 }

@@ -1,4 +1,5 @@
 // The occurrences of a body's required atoms where shared operands make them many: tables over the concepts, and the RunDeltas in order.
+// The tables stay parameters whose length is asked for: a struct of one would hold a `&mut`, and each step would have to say that it stays the same one.
 ghost use Rattle.std.specs.Prelude.{◌≡◌, ◌+◌, ◌<◌, ◌≤◌, length};
 ghost use mathlib.Core.List.{flat_map};
 ghost use Rattle.deck.specs.Accepted.{content};
@@ -161,6 +162,7 @@ fn first_entry(deck: &Deck, concept: ConceptId, table: &[u32]) -> u32
 }
 
 // The table takes the first required atoms of the first `count` concepts in.
+// Beside `fill_deltas`: of both, the entry would be a closure with the contract of either written again.
 pub fn fill_firsts(deck: &Deck, table: &mut [u32], count: u32)
     requires count_bound { count ≤ concept_count (content deck.now) }
     requires count_in_bounds { count ≤ length table.old }

@@ -22,6 +22,7 @@ pub enum Reason {
 }
 
 impl Reason {
+    // The four below stay: they are public, and promise the reasons as document 01 numbers them.
     pub fn label_not_closed(class: ClassId, role: RoleId) -> Reason
         ensures { result ≡ label_not_closed class.0 role.0 }
     {
@@ -46,7 +47,7 @@ impl Reason {
         Reason::AxiomsDropped(dropped)
     }
 
-    // As the log has it: a reason's number, and its two words. Variants with fields have no numbers of their own.
+    // As the log has it: a reason's number, and its two words. Variants with fields have no numbers of their own. No From, as only the log asks for them.
     fn words(self) -> [u32; 3]
         ensures { result ≡ words_of self }
     {

@@ -72,6 +72,7 @@ fn visits_all(deck: &Deck, owner: ConceptId, list: Span, deep: bool, left: u32) 
 }
 
 // The size of an And of the list, all below `owner`, whose sizes the table has.
+// Beside `sum_entries`: it sums bytes, and as an estimate promises nothing.
 fn size_of_and(deck: &Deck, sizes: &[u8], owner: ConceptId, list: Span) -> u8
     requires list_fits { ListFits deck.now.bytes.now owner.0 list }
     requires owner_in_bounds { owner.0 ≤ length sizes.now }

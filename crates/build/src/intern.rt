@@ -1,6 +1,6 @@
 // The labels of the elements, one after the other from the start of the lent buffer on, each of as many words as the label
-// in the making has. Equal labels are one element. Three leaves know how labels lie: `row` here, `store`, which appends one,
-// and eval's `has_class`.
+// in the making has. Equal labels are one element. Four leaves know how labels lie: `row` here, `store`, which appends one,
+// atoms' `label_at`, and eval's `Labels::word`.
 ghost use Rattle.std.specs.Prelude.{◌≡◌, true, ◌+◌, ◌*◌, ◌<◌, ◌≤◌, length, IfSome};
 ghost use Rattle.std.proofs.Math.Seq.{paste};
 ghost use Rattle.atoms.specs.Rows.{row_at, rows_of};

@@ -85,6 +85,7 @@ pub fn chain(heads: &mut [u32], links: &mut [u32], h: usize, element: u32)
 
 impl Build<'_, '_> {
     // The element of the label in the making, which takes the floor in first where it has no real class. A new one becomes the first of its chain.
+    // Beside `intern`, which keeps no table: the search and what a new label does differ, two of the three steps.
     pub fn intern_by(&mut self, heads: &mut [u32], links: &mut [u32]) -> Element
         requires place { HasPlace self.old }
         requires elements_in_bounds { self.old.tally.elements < length links.old }

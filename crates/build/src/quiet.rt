@@ -1,4 +1,5 @@
 // Walks of a concept from an element that changed nothing, remembered in a lent table of words until the structure has grown. A table of fewer than 16,384 words remembers none; an `Option` of a table is no plainer, as a loop would have to lend out what it holds anew for each call.
+// The tally goes beside the table, as it is the build's.
 ghost use Rattle.std.specs.Prelude.{◌≡◌, true, ◌<◌};
 ghost use Rattle.build.specs.Quiet.{size_of, word_of, Worded, Known, Kept};
 

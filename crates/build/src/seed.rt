@@ -15,6 +15,7 @@ use atoms::subsumers::load_row;
 use deck::Deck;
 use deck::numbers::{ClassId, Element};
 
+// The words stay a slice whose length is asked for, as the functions of labels take slices.
 // The classes of a fact become bits.
 fn insert_fact(deck: &Deck, fact: u32, words: &mut [u64])
     requires fact_bound { fact < fact_count (deck_of deck.now.bytes.now) }

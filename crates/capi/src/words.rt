@@ -11,6 +11,7 @@ use eval::verdict::Verdict;
 use model::outcome::Outcome;
 
 // Stands for the word of a refusal that has none, and of an accepted deck: no deck has so many words.
+// It stays a number, as C has no Option.
 const NO_WORD: u32 = 4294967295;
 
 pub fn deck_number(answer: Result<(), Refusal>) -> u32
@@ -40,6 +41,7 @@ pub fn deck_word(answer: Result<(), Refusal>) -> u32
     }
 }
 
+// Functions and no From: neither of the two types is of this crate.
 fn judgement_words(judgement: Judgement) -> [u32; 4]
     ensures { result ≡ judgement_words judgement }
 {
@@ -50,6 +52,7 @@ fn judgement_words(judgement: Judgement) -> [u32; 4]
     }
 }
 
+// By a match: `Outcome` is in order from best to worst, and C's numbers are not.
 fn outcome_number(outcome: Outcome) -> u32
     ensures { result ≡ outcome_number outcome }
 {
@@ -71,6 +74,7 @@ fn give(answer: &mut [u32], words: [u32; 4]) -> u32
 
 // Each of the three below writes the words of an answer and returns 0, or returns the number of a refusal. One function for all would take
 // the answer already mapped to its words, a closure and a law more for each than the two arms here.
+// The answer goes on as it was lent, maybe longer than four words, and that it has four is asked for.
 pub fn tell_judgement(answer: &mut [u32], judged: Result<Judgement, Refusal>) -> u32
     requires { 4 ≤ length answer.old }
     ensures { told result answer.new ≡ judgement_told judged answer.old }

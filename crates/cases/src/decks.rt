@@ -18,6 +18,7 @@ struct Place {
 }
 
 // Copies `count` words.
+// Buffers and places go as they are: a run is read and made from places that `word_or_0` and `put_word` take.
 fn plain(data: &[u8], read: usize, room: &mut [u8], made: usize, count: usize)
     requires { (read ≤ 1000000) × (made ≤ 1000000) × (count ≤ 1000000) }
 {

@@ -8,6 +8,7 @@ pub struct Number {
 }
 
 // The number at place `at`; 0, and the same place, if there is none.
+// It stays a number and a place, and no Option: a case reads what is past its end as 0, and one test of its place tells that it is malformed.
 pub fn number_at(data: &[u8], at: usize) -> Number {
     if at >= data.len() {
         return Number { value: 0, next: at };

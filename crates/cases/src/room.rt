@@ -2,6 +2,7 @@
 ghost use Rattle.std.specs.Prelude.{◌≡◌, ◌<◌, ◌^◌, length};
 
 // A room of so many items, all blank. A function of its own, as the list of a long array is too long to be written out in proofs.
+// report has one too, as no library stands on what tests read with.
 pub fn blank<T: Copy, const N: usize>(item: T) -> [T; N]
     requires { N < 2 ^ 32 }
     ensures { N ≡ length result }

@@ -25,6 +25,7 @@ pub enum ConceptExpr {
     Max(u32, RoleWord, ConceptId),
 }
 
+// No TryFrom: a tag of an accepted deck always has a concept, so there is no error to give.
 fn expr(tag: u32, x: u32, y: u32, z: u32) -> ConceptExpr
     requires { tag < 12 }
     ensures { result ≡ expr_at tag x y z }

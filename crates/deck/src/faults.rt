@@ -116,6 +116,7 @@ impl Draft<'_> {
     }
 
     // The fault of record k of part p.
+    // By the part's number, as the definition is: one cold function for the tests of all parts.
     #[cold]
     pub fn record_fault(&self, p: usize, k: usize) -> Result<(), Refusal>
         requires p_bound { p < 6 }

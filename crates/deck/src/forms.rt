@@ -37,8 +37,8 @@ pub const INJECTED_FORM: Form = Form::Fields(Kind::Class, Kind::Role, Kind::Real
 
 pub const FACT_FORM: Form = Form::Fields(Kind::Class, Kind::Role, Kind::Class);
 
-// The fields of a concept, by its tag. A match and no table: one read by tag is made on the stack at each read, and the check of a deck takes
-// twice as long (docs/DECISIONS.md, 53).
+// The fields of a concept, by its tag. A match and no table: one read by tag is made on the stack at each read, and under the older kit
+// the check of a deck took twice as long (docs/DECISIONS.md, 53).
 pub fn concept_form(tag: u32) -> Form
     ensures { result ≡ concept_form tag }
 {
@@ -96,6 +96,7 @@ pub fn axiom_form(tag: u32) -> Form
 
 // A deck whose records are being tested: its parts, and what words of each kind but concepts are below,
 // by the kind's number.
+// The bounds stay a table by the kind's number: a match would read the counts again for each field.
 #[derive(Clone, Copy)]
 pub struct Draft<'a> {
     pub parts: Parts<'a>,

@@ -10,6 +10,7 @@ use crate::numbers::{ClassId, RoleId};
 
 impl Deck<'_> {
     // The order of the records: by class, then by role.
+    // One number, so that a step of the search is one comparison.
     fn key(&self, k: usize) -> u32
         requires k_bound { k < part_count self.now.bytes.now 2 }
         ensures { result ≡ injected_key self.now.bytes.now k }
@@ -18,8 +19,8 @@ impl Deck<'_> {
         parts.part_word(2, k, 0) * 1024 + parts.part_word(2, k, 1)
     }
 
-    // The class q of the record (y, r, q), found by halving: the records lie in the lent bytes as words, so there is no slice of them to search,
-    // and without a heap none can be made. `Parts::find` halves too; one function for both would take what it reads as a closure, and
+    // The class q of the record (y, r, q). The halving stays by hand: for the library's search the bytes would first be seen as chunks of twelve,
+    // and what it finds there be carried back to words by their place. `Parts::find` halves too; one function for both would take what it reads as a closure, and
     // its contract the order of what that answers.
     pub fn injected_class(&self, y: ClassId, r: RoleId) -> Option<ClassId>
         requires y_bound { y.0 < class_count (deck_of self.now.bytes.now) }

@@ -8,6 +8,7 @@ use crate::trailer::{Trailer, width};
 use crate::words;
 
 // The bytes of a deck whose trailer is in order: its parts lie where that says.
+// Part, record and field stay three numbers, each bounded where a word is asked for: a struct of them with an invariant would be made for each word.
 #[derive(Clone, Copy)]
 pub struct Parts<'a> {
     pub bytes: &'a [u8],

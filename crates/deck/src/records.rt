@@ -75,7 +75,7 @@ impl Parts<'_> {
         self.find(start, count, k)
     }
 
-    // The class and the role are above those of the record before.
+    // The class and the role are above those of the record before. By hand: the second words are read only where the first are alike.
     fn injected_order(&self, k: usize) -> bool
         requires { k < part_count self.now.bytes.now 2 }
         ensures { result ≡ injected_order self.now.bytes.now k }

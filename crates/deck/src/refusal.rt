@@ -28,6 +28,7 @@ pub enum Refusal {
 
 impl Refusal {
     // The number of the refusal.
+    // A method and no From: it stays beside `word`, and both are asked for by name.
     pub fn number(self) -> u32
         ensures { result ≡ number_of self }
     {

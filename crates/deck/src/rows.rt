@@ -12,6 +12,7 @@ use crate::words;
 
 // A row or a list: so many words of lists, from a start. What its words are below goes by whose it is, so that is no fact of the type but
 // asked for where it is read (`ListFits`).
+// So is that a place lies in it.
 #[derive(Clone, Copy, Debug, PartialEq, Eq)]
 pub struct Span {
     pub start: u32,
@@ -19,6 +20,7 @@ pub struct Span {
 }
 
 impl Parts<'_> {
+    // In these methods start and count stay two numbers, as sizes: a `Span` would be taken apart in each.
     // Whether each word of the row is below n. The pass goes to the row's end whatever it finds, so that
     // the compiler tests several words at once; the one of row_rises too.
     fn row_below(&self, start: usize, count: usize, n: usize) -> bool
@@ -62,8 +64,8 @@ impl Parts<'_> {
         rises
     }
 
-    // Whether a word of a row that rises is x, by halving: the words lie in the lent bytes, so there is no slice of them to search, and
-    // without a heap none can be made.
+    // Whether a word of a row that rises is x. The halving stays by hand: for the library's search the bytes would first be seen as chunks of
+    // four, and what it finds there be carried back to words by their place, which is longer than this loop.
     pub fn find(&self, start: usize, count: usize, x: usize) -> bool
         requires count_bound { start + count ≤ part_count self.now.bytes.now 6 }
         requires count_value { row_rises self.now.bytes.now start count ≡ true }

@@ -1,4 +1,4 @@
-// Checking an axiom, by its tag.
+// Checking an axiom, by its tag. Document 01 has it so, with these ranges.
 ghost use Rattle.std.specs.Prelude.{◌≡◌, ◌<◌, ◌≤◌};
 ghost use Rattle.deck.specs.Content.{axiom_of};
 ghost use Rattle.deck.specs.Deck.{axiom_count, axiom_at, concept_count};

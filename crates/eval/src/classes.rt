@@ -88,6 +88,7 @@ impl Judging<'_> {
     }
 
     // The concepts of a list are equivalent, or disjoint.
+    // The loop is like that of `check_sub_class_of`: of both, what is judged at an element would be a closure over the memo with a contract of its own.
     pub fn check_classes(&self, memo: &mut [u16], relation: Relation, list: Span) -> Verdict
         requires remembered { Remembered self.now.lent memo.old }
         requires list_fits { ListFits self.now.lent.deck.bytes.now (concept_count (deck_in self.now.lent)) list }

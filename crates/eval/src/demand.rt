@@ -17,6 +17,7 @@ use crate::verdict::{Verdict, Witnesses, unresolved_or_holds};
 use deck::numbers::{ConceptId, Element, RoleWord};
 
 // The from or the to is in a concept, or the pair is one of another role word.
+// That its numbers are the deck's is asked for (`DemandFits`), as it does not hold the deck.
 #[derive(Clone, Copy)]
 pub enum Demand {
     Domain(ConceptId),

@@ -1,4 +1,5 @@
 // Judging one concept or axiom over a lent structure. Nothing is taken for granted: what does not fit is refused.
+// The structure goes as C gives it, in slices and numbers: `Lent::read` makes one value of them.
 ghost use Rattle.std.specs.Prelude.{true, ◌≡◌};
 ghost use Rattle.deck.specs.Content.{deck_of};
 ghost use Rattle.deck.specs.Deck.{axiom_at};

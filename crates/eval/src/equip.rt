@@ -1,4 +1,5 @@
 // What judging works with besides the structure: an index of its edges and a table of judgements, on the stack, in two sizes.
+// That the sizes do is asked for (`Room`): they are const arguments, and no type holds them.
 ghost use Rattle.std.specs.Prelude.{◌&&◌, ◌≡◌, ◌*◌, ◌<◌, ltb};
 ghost use Rattle.deck.specs.Deck.{concept_count, axiom_count, axiom_at};
 ghost use Rattle.eval.specs.Equipped.{Room};
@@ -23,7 +24,7 @@ pub fn is_small(shape: Shape, concepts: u32) -> bool
 }
 
 impl<'a> Lent<'a> {
-    // The same with an index of the edges, made in the words that are lent for it.
+    // The structure with an index of its edges, made in the words that are lent for it.
     pub fn indexed(self, index: &'a mut [u32]) -> Judging<'a>
         ensures { result.lent ≡ self.entry }
     {

@@ -30,6 +30,7 @@ impl Lent<'_> {
 
 impl Judging<'_> {
     // The pairs of a in b, or, `turned`, those of b in a; a role is not held against itself.
+    // `turned` stays a bool: it only says which of the two roles is held against the other, and an enum would say no more.
     fn check_across(&self, memo: &mut [u16], a: RoleWord, b: RoleWord, turned: bool) -> Verdict
         requires remembered { Remembered self.now.lent memo.old }
         requires a_bound { a.0 < 2 * role_count (deck_in self.now.lent) }

@@ -14,7 +14,7 @@ pub fn label_width(deck: &Deck<'_>) -> usize
     (deck.class_count() as usize + 63) / 64
 }
 
-// Bit b of a word.
+// Bit b of a word. Its number stays a u64, as a shift takes it, bounded where it is asked for: a wrapper would be made and taken apart at each call.
 pub fn bit_of(w: u64, b: u64) -> bool
     requires { b < 64 }
     ensures { result ≡ bit w b }

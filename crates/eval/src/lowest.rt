@@ -5,6 +5,7 @@ ghost use Rattle.eval.specs.Lowest.{nothing_yet, before, lower, lowest_next};
 use crate::edges::Edge;
 use crate::judgement::{Construct, Judgement};
 
+// The three loops that use it stay apart: what is judged of an edge would be a closure, over the memo in one and over no memo in two.
 #[derive(Clone, Copy)]
 pub struct Lowest {
     pub failing: Option<Edge>,

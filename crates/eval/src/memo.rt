@@ -1,5 +1,6 @@
 // Judgements remembered by concept and element, in a lent table of words. Each key has one word: its quotient by the length of
 // the table, times 16, and the code of the judgement.
+// That the table has a word is asked for: a slice's type does not say it.
 ghost use Rattle.std.specs.Prelude.{◌≡◌, ◌<◌, length};
 ghost use Rattle.eval.specs.Memo.{code_of, judgement_of, key_of, recalled, stored};
 

@@ -20,6 +20,7 @@ use atoms::target_label::{Target, target_label};
 use build::building::{Build, Tripped};
 use deck::numbers::{ClassId, Element, RoleId};
 
+// `known`, `facts` and `since` stay parameters (`Recalls`, `Tail`): what is asked of them is said of the structure, which every step changes, and a struct would be made anew for each.
 // The edge of the role from e to the element of a class's row, which is remembered. Past the element bound a known label trips it too.
 fn link_row(
     b: &mut Build<'_, '_>,
@@ -173,6 +174,7 @@ fn turn_start(first: u32, edges: u32) -> u32
 }
 
 // The highest element not yet taken first, new ones included.
+// No `for`: elements that a turn adds come first after it.
 fn turns(b: &mut Build<'_, '_>, known: &mut [u32], facts: &FactIndex<'_>) -> Result<(), Tripped>
     requires ready { Ready b.old }
     requires own { facts.now.deck.bytes.now ≡ b.old.plan.deck.bytes.now }

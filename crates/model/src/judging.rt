@@ -18,6 +18,7 @@ use eval::shape::Shape;
 use eval::verdict::Verdict;
 
 // The four words of a verdict, from a place on.
+// The verdicts lie in words that are lent, four an axiom and maybe more: how many there are is asked for.
 fn store(verdicts: &mut [u32], at: usize, verdict: Verdict)
     requires { at + 4 ≤ length verdicts.old }
     ensures { verdicts.new ≡ sets verdicts.old at (words_of verdict) }
@@ -67,6 +68,7 @@ fn judge_each(judging: &Judging, memo: &mut [u16], verdicts: &mut [u32]) -> Outc
 }
 
 // The same in a room of its own, of I words for the index and M for the table: it is made only for a structure that needs it.
+// Not one function with eval's `axiom_in_room`, for the reason that stands there.
 #[inline(never)]
 fn judge_in_room<const I: usize, const M: usize>(lent: &Lent, verdicts: &mut [u32]) -> Outcome
     requires room { Room I M }

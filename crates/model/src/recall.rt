@@ -20,6 +20,7 @@ use deck::Deck;
 use deck::numbers::{ClassId, Element};
 
 // The labels of all elements by their slots.
+// What is known stays beside it (`Knows`), as each step writes it.
 #[derive(Clone, Copy)]
 struct Printed<'t> {
     plan: Plan<'t>,

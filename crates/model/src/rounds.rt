@@ -163,6 +163,7 @@ fn fire_axiom(b: &mut Build<'_, '_>, sizes: &[u8], axiom: u32, e: Element) -> Re
     let record = deck.axiom_at(axiom);
     let x = record.first;
     let y = record.second;
+    // By the record's own tag, as `AxiomRecord` of deck says.
     match record.tag {
         0 => fire(b, sizes, ConceptId(x), ConceptId(y), e),
         1 => fire_equivalent(b, sizes, Span { start: x, count: y }, e),

@@ -10,6 +10,7 @@ use deck::numbers::{RoleId, RoleWord};
 use deck::rows::Span;
 
 // An edge of the first role and then one of the second make one of the third.
+// That they are roles of the deck is asked for (`RuleFits`), as a rule does not hold the deck.
 #[derive(Clone, Copy)]
 pub struct Rule {
     pub first: RoleId,
@@ -53,6 +54,7 @@ pub fn rule_at(deck: &Deck<'_>, axiom: u32) -> Option<Rule>
     let x = record.first;
     let y = record.second;
     let z = record.third;
+    // By the record's own tag, as `AxiomRecord` of deck says.
     match record.tag {
         5 => chain_rule(deck, Span { start: x, count: y }, RoleWord(z)),
         11 => link_rule(RoleWord(x), RoleWord(x), RoleWord(x)),

@@ -59,6 +59,7 @@ fn judge(lent: &Lent, reasons: u32, verdicts: &mut [u32]) -> Outcome
 }
 
 // Reads the deck, builds its structure within the bounds up to the last phase, and judges every axiom in it.
+// The last phase stays a number here, as C gives it: `Task::read` makes a `Phase` of it and refuses any other.
 pub fn run(
     deck: &[u8],
     bounds: Bounds,

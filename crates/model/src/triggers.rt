@@ -169,6 +169,7 @@ fn trigger_of(deck: &Deck, axiom: u32) -> Trigger
     let record = deck.axiom_at(axiom);
     let x = record.first;
     let y = record.second;
+    // By the record's own tag, as `AxiomRecord` of deck says.
     match record.tag {
         0 => sub_class_trigger(deck, ConceptId(x), ConceptId(y)),
         1 => equivalent_trigger(deck, Span { start: x, count: y }),

@@ -24,6 +24,7 @@ pub fn text_room() -> [u8; 204864]
 
 // Writes the text to the start of `out` and answers its length; 0 where `out` is too short for it, and then nothing is written.
 // Where `out` has room for any text, it is made there at once.
+// The length stays a number that is 0 for none, as the C function hands it on.
 pub fn report(input: &[u8], out: &mut [u8]) -> usize
     ensures is { reported result out.new ≡ Text·report input.now out.old }
     ensures confirmed { take 9 (take result out.new) ≡ outcome_word Outcome.Confirmed → Confirms input.now }

@@ -7,6 +7,7 @@ use build::tally::Tally;
 use model::outcome::Outcome;
 
 // The text in the making: the buffer that is lent for it, and how much of that is in use.
+// They stay two, as without a heap the text lies in what is lent. How much room a step needs is its own, so it is asked for (`HasRoom`).
 #[derive(Drop)]
 pub struct Page<'a> {
     pub buf: &'a mut [u8],
@@ -43,6 +44,7 @@ impl Page<'_> {
         self.put_number(n);
     }
 
+    // Printed by hand: what `write!` prints is promised of a String only, which needs a heap.
     fn put_outcome(&mut self, outcome: Outcome)
         requires { HasRoom self.old 9 }
         ensures { Puts self.old self.new (outcome_word outcome) }
@@ -77,6 +79,7 @@ impl Page<'_> {
     }
 
     // What a verdict's four words say.
+    // Kinds and witnesses stay numbers here, the largest for none, as a run leaves verdicts in words that are lent.
     fn put_verdict(&mut self, words: [u32; 4])
         requires { HasRoom self.old 39 }
         ensures { Puts self.old self.new (verdict_text (get_or words 0 0) (get_or words 1 0) (get_or words 2 0) (get_or words 3 0)) }

@@ -32,6 +32,7 @@ fn words_at(verdicts: &[u32], k: u32) -> [u32; 4]
 
 impl Page<'_> {
     // The lines of the first `axioms` axioms.
+    // How many axioms there are stands beside the verdicts, whose room may be longer.
     fn put_axioms(&mut self, verdicts: &[u32], axioms: u32)
         requires words { 4 * axioms ≤ length verdicts.now }
         requires room { HasRoom self.old (50 * axioms) }

@@ -52,6 +52,7 @@ fn ask_one(rt: &impl Print, data: &[u8], at: usize, room: &mut [u8]) -> io::Resu
     Ok(Some(case.next))
 }
 
+// Like main of test_deck: what both share is in cases, and rooms and step differ.
 fn main(rt: HostRuntime) -> io::Result<()> {
     let mut data: [u8; 400000] = blank(0);
     let n = read_full(&mut rt.stdin(), &mut data)?;

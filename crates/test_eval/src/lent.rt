@@ -25,9 +25,10 @@ fn deck_words(data: &[u8], at: usize, deck: &mut [u8], count: usize) -> usize {
     next
 }
 
-fn put_label(labels: &mut [u64], at: usize, word: u64) {
-    if at < labels.len() {
-        labels[at] = word;
+// Writes an item where there is room.
+fn put<T: Copy>(room: &mut [T], at: usize, item: T) {
+    if at < room.len() {
+        room[at] = item;
     }
 }
 
@@ -35,7 +36,7 @@ fn put_label(labels: &mut [u64], at: usize, word: u64) {
 fn put_labels(labels: &mut [u64], from: usize, count: u32, word: u64) -> usize {
     let mut at = from;
     for _ in 0..count {
-        put_label(labels, at, word);
+        put(labels, at, word);
         at = at.wrapping_add(1);
     }
     at
@@ -60,12 +61,6 @@ fn label_runs(data: &[u8], at: usize, labels: &mut [u64], runs: u32) -> usize {
     next
 }
 
-fn put_edge(edges: &mut [[u32; 3]], at: usize, edge: [u32; 3]) {
-    if at < edges.len() {
-        edges[at] = edge;
-    }
-}
-
 // Expands the edges: role, from, to. Answers the place after them.
 fn edge_records(data: &[u8], at: usize, edges: &mut [[u32; 3]], count: usize) -> usize {
     let mut next = at;
@@ -73,7 +68,7 @@ fn edge_records(data: &[u8], at: usize, edges: &mut [[u32; 3]], count: usize) ->
         let role = number_at(data, next);
         let from = number_at(data, role.next);
         let to = number_at(data, from.next);
-        put_edge(edges, i, [role.value, from.value, to.value]);
+        put(edges, i, [role.value, from.value, to.value]);
         next = to.next;
     }
     next

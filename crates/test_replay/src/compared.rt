@@ -16,6 +16,7 @@ pub struct Compared<'a> {
 }
 
 // A deck, and the structure that a run built of it.
+// Like `Lent` of test_eval, and not shared: cases stands on no other crate.
 #[derive(Clone, Copy)]
 pub struct Built<'a> {
     pub deck: &'a [u8],

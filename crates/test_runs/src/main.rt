@@ -30,6 +30,7 @@ fn print_number(rt: &impl Print, n: u32) -> io::Result<()> {
     print!(rt; " {n}")
 }
 
+// By hand, as `Outcome` has no Display.
 fn print_outcome(rt: &impl Print, outcome: Outcome) -> io::Result<()> {
     match outcome {
         Outcome::Confirmed => rt.write_all(b" confirmed"),
