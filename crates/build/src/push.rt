@@ -21,8 +21,6 @@ fn append(edges: &mut [[u32; 3]], count: u32, e: Edge)
 }
 
 // Does e stand in its role's own bucket, among the first `count` edges? Those below `since` leave other elements.
-// In a frame of its own: there what it looks for stays in registers.
-#[inline(never)]
 fn is_known(edges: &[[u32; 3]], count: u32, e: Edge, since: u32) -> bool
     requires count_in_bounds { count ≤ length edges.now }
     requires tail { Tail edges.now count since e.from.0 }
@@ -50,7 +48,11 @@ pub fn add_edge(
     append(edges, tally.edges, e);
     tally.edges += 1;
     if limit < tally.edges {
-        tally.reasons = note(log, tally.reasons, Reason::bound_tripped(Bound::Edges, limit));
+        tally.reasons = note(
+            log,
+            tally.reasons,
+            Reason::bound_tripped(Bound::Edges, limit),
+        );
         return Err(Tripped);
     }
     Ok(())
