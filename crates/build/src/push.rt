@@ -2,12 +2,23 @@
 ghost use Rattle.std.specs.Prelude.{◌≡◌, ◌<◌, ◌≤◌, length, set, is_err};
 ghost use Rattle.eval.specs.Edges.{row_of, edges_of, edge_in};
 ghost use Rattle.build.specs.Push.{Tail};
-ghost use Rattle.build.specs.Push.{added, push_edge};
-ghost use Rattle.build.specs.Building.{HasRoom, Same, Pushed, state_of};
+ghost use Rattle.build.specs.Push.{Left, Room, added, push_edge, start};
+ghost use Rattle.build.specs.Building.{HasRoom, Pushed, state_of};
 
 use crate::building::{Build, Tripped};
+use crate::tally::Tally;
 use atoms::reasons::{Bound, Reason, note};
 use eval::edges::{Edge, edge_at};
+
+fn append(edges: &mut [[u32; 3]], count: u32, e: Edge)
+    requires { count < length edges.old }
+    ensures { edges.new ≡ set edges.old count (row_of e) }
+{
+    let role = e.role.0;
+    let from = e.from.0;
+    let to = e.to.0;
+    edges[count as usize] = [role, from, to];
+}
 
 // Does e stand in its role's own bucket, among the first `count` edges? Those below `since` leave other elements.
 fn is_known(edges: &[[u32; 3]], count: u32, e: Edge, since: u32) -> bool
@@ -23,31 +34,60 @@ fn is_known(edges: &[[u32; 3]], count: u32, e: Edge, since: u32) -> bool
     false
 }
 
-impl Build<'_, '_> {
-    fn append(&mut self, e: Edge)
-        requires { self.old.tally.edges < length self.old.edges.now }
-        ensures same { Same self.old self.new }
-        ensures edges { self.new.edges.now ≡ set self.old.edges.now self.old.tally.edges (row_of e) }
-        ensures rest { (self.new.label ≡ self.old.label) × (self.new.labels ≡ self.old.labels) × (self.new.log ≡ self.old.log) × (self.new.tally ≡ self.old.tally) }
-    {
-        let role = e.role.0;
-        let from = e.from.0;
-        let to = e.to.0;
-        self.edges[self.tally.edges as usize] = [role, from, to];
+// Adds e, and tests the bound after it.
+pub fn add_edge(
+    limit: u32,
+    edges: &mut [[u32; 3]],
+    log: &mut [u32],
+    tally: &mut Tally,
+    e: Edge,
+) -> Result<(), Tripped>
+    requires { Room limit edges.old tally.old.edges }
+    ensures { Left limit edges.old log.old tally.old edges.new log.new (record { tally = tally.new; tripped = is_err result }) (added limit e (start edges.old log.old tally.old)) }
+{
+    append(edges, tally.edges, e);
+    tally.edges += 1;
+    if limit < tally.edges {
+        tally.reasons = note(
+            log,
+            tally.reasons,
+            Reason::bound_tripped(Bound::Edges, limit),
+        );
+        return Err(Tripped);
     }
+    Ok(())
+}
 
+// Adds e unless it is known.
+pub fn push_edge(
+    limit: u32,
+    edges: &mut [[u32; 3]],
+    log: &mut [u32],
+    tally: &mut Tally,
+    e: Edge,
+    since: u32,
+) -> Result<(), Tripped>
+    requires room { Room limit edges.old tally.old.edges }
+    requires tail { Tail edges.old tally.old.edges since e.from.0 }
+    ensures { Left limit edges.old log.old tally.old edges.new log.new (record { tally = tally.new; tripped = is_err result }) (push_edge limit e (start edges.old log.old tally.old)) }
+{
+    if is_known(edges, tally.edges, e, since) {
+        return Ok(());
+    }
+    add_edge(limit, edges, log, tally, e)
+}
+
+impl Build<'_, '_> {
     // Adds e, and tests the bound after it.
     pub fn add_edge(&mut self, e: Edge) -> Result<(), Tripped>
         requires { HasRoom self.old }
         ensures { Pushed self.old self.new (is_err result) (added self.old.plan.bounds.max_edges e (state_of self.old)) }
     {
-        self.append(e);
-        self.tally.edges += 1;
-        if self.plan.bounds.max_edges < self.tally.edges {
-            self.note(Reason::bound_tripped(Bound::Edges, self.plan.bounds.max_edges));
-            return Err(Tripped);
-        }
-        Ok(())
+        let limit = self.plan.bounds.max_edges;
+        let edges = &mut *self.edges;
+        let log = &mut *self.log;
+        let tally = &mut self.tally;
+        add_edge(limit, edges, log, tally, e)
     }
 
     // Adds e unless it is known.
@@ -56,11 +96,10 @@ impl Build<'_, '_> {
         requires tail { Tail self.old.edges.now self.old.tally.edges since e.from.0 }
         ensures { Pushed self.old self.new (is_err result) (push_edge self.old.plan.bounds.max_edges e (state_of self.old)) }
     {
-        let count = self.tally.edges;
+        let limit = self.plan.bounds.max_edges;
         let edges = &mut *self.edges;
-        if is_known(edges, count, e, since) {
-            return Ok(());
-        }
-        self.add_edge(e)
+        let log = &mut *self.log;
+        let tally = &mut self.tally;
+        push_edge(limit, edges, log, tally, e, since)
     }
 }

@@ -12,6 +12,8 @@ use eval::edges::Edge;
 
 impl Build<'_, '_> {
     // The edge of the role to an element; the element bound is tested before. The edges below `since` leave other elements.
+    // In a frame of its own, where what the search for a known edge compares stays in registers.
+    #[inline(never)]
     pub fn link(
         &mut self,
         role: RoleId,
