@@ -8,7 +8,7 @@ use crate::tally::Tally;
 use atoms::reasons;
 use atoms::reasons::Reason;
 
-// What steps need of it (`HasRoom`, `HasPlace`, `Ready`) is no invariant: a bound that trips ends it, and what stands then is still read.
+// What steps need of it (`HasRoom`, `HasPlace`, `Unseeded`, `Ready`, and `Closes` of model) is no invariant: a bound that trips ends it, and what stands then is still read.
 // How much of the buffers is in use stands beside them, as they are lent longer than they are used.
 // The label in the making, the labels of the elements, the edges and the log of reasons, and how much of these is in use.
 #[derive(Drop)]

@@ -10,6 +10,7 @@ use crate::tally::Tally;
 use atoms::reasons::{Bound, Reason, note};
 use eval::edges::{Edge, edge_at};
 
+// No From for a row: this is the only place that makes one.
 fn append(edges: &mut [[u32; 3]], count: u32, e: Edge)
     requires { count < length edges.old }
     ensures { edges.new ≡ set edges.old count (row_of e) }
