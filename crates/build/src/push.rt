@@ -35,7 +35,7 @@ fn is_known(edges: &[[u32; 3]], count: u32, e: Edge, since: u32) -> bool
     false
 }
 
-// Adds e, and tests the bound after it.
+// Adds e, and tests the bound after it. No method of `Build`, whose plan has a deck and a floor: this asks only for room.
 pub fn add_edge(
     limit: u32,
     edges: &mut [[u32; 3]],
@@ -59,7 +59,7 @@ pub fn add_edge(
     Ok(())
 }
 
-// Adds e unless it is known.
+// Adds e unless it is known; it too asks for no plan.
 pub fn push_edge(
     limit: u32,
     edges: &mut [[u32; 3]],
