@@ -2,9 +2,10 @@
 ghost use Rattle.std.specs.Prelude.{◌≡◌, [], ◌*◌, ◌<◌, length, get_or};
 ghost use Rattle.deck.specs.Content.{deck_of};
 ghost use Rattle.deck.specs.Deck.{role_count, role_of};
-ghost use Rattle.eval.specs.Edges.{edge_of, leaves, linked, linked_by, turned, under};
+ghost use Rattle.eval.specs.Edges.{edge_of, edges_of, leaves, linked, linked_by, turned, under};
 ghost use Rattle.eval.specs.InLent.{deck_in, edges_in};
 
+use crate::index::EdgeIndex;
 use crate::lent::Judging;
 use deck::Deck;
 use deck::numbers::{Element, RoleId, RoleWord};
@@ -67,28 +68,50 @@ pub fn leaves_by(deck: &Deck<'_>, e: Edge, r: RoleId, x: Element) -> bool
     e.from == x && is_sub_role(deck, e, r)
 }
 
-impl Judging<'_> {
+impl EdgeIndex<'_> {
     // Is (x, y) a pair of the role word?
+    pub fn has_pair(&self, deck: &Deck<'_>, word: RoleWord, x: Element, y: Element) -> bool
+        requires word_bound { word.0 < 2 * role_count (deck_of deck.now.bytes.now) }
+        requires x_lt_elements { x.0 < self.now.elements }
+        requires y_lt_elements { y.0 < self.now.elements }
+        ensures { result ≡ linked_by (deck_of deck.now.bytes.now) (edges_of self.now.edges.now self.now.count) (role_of word.0) x.0 y.0 }
+    {
+        let r = word.role_id();
+        if word.is_inverse() {
+            return self.has_edge(deck, r, y, x);
+        }
+        self.has_edge(deck, r, x, y)
+    }
+
+    // Does an edge of r go from x to y?
+    pub fn has_edge(&self, deck: &Deck<'_>, r: RoleId, x: Element, y: Element) -> bool
+        requires r_bound { r.0 < role_count (deck_of deck.now.bytes.now) }
+        requires x_lt_elements { x.0 < self.now.elements }
+        ensures { result ≡ linked (deck_of deck.now.bytes.now) (edges_of self.now.edges.now self.now.count) r.0 x.0 y.0 }
+    {
+        self.leaving(x)
+            .any(|e| e.to == y && is_sub_role(deck, e, r))
+    }
+}
+
+impl Judging<'_> {
+    // The same of the structure that is judged.
+    #[inline(always)]
     pub fn has_pair(&self, word: RoleWord, x: Element, y: Element) -> bool
         requires word_bound { word.0 < 2 * role_count (deck_in self.now.lent) }
         requires x_lt_elements { x.0 < self.now.lent.shape.elements }
         requires y_lt_elements { y.0 < self.now.lent.shape.elements }
         ensures { result ≡ linked_by (deck_in self.now.lent) (edges_in self.now.lent) (role_of word.0) x.0 y.0 }
     {
-        let r = word.role_id();
-        if word.is_inverse() {
-            return self.has_edge(r, y, x);
-        }
-        self.has_edge(r, x, y)
+        self.edge_index().has_pair(&self.lent.deck, word, x, y)
     }
 
-    // Does an edge of r go from x to y?
+    #[inline(always)]
     pub fn has_edge(&self, r: RoleId, x: Element, y: Element) -> bool
         requires r_bound { r.0 < role_count (deck_in self.now.lent) }
         requires x_lt_elements { x.0 < self.now.lent.shape.elements }
         ensures { result ≡ linked (deck_in self.now.lent) (edges_in self.now.lent) r.0 x.0 y.0 }
     {
-        self.leaving(x)
-            .any(|e| e.to == y && is_sub_role(&self.lent.deck, e, r))
+        self.edge_index().has_edge(&self.lent.deck, r, x, y)
     }
 }

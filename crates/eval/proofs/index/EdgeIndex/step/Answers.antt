@@ -1,4 +1,4 @@
-use mathlib.Core.Path.{◌≡◌, sym, ap, ◌∙◌}
+use mathlib.Core.Path.{sym, ap, ◌∙◌}
 use lib.ListN.{drop}
 use mathlib.Core.List.{◌∷◌}
 use borrow.Author.Tests.{eqb-true}
@@ -7,7 +7,6 @@ use Rattle.eval.specs.declared.edges.Edge.{Edge}
 use Rattle.eval.specs.Edges.{edges_of}
 use Rattle.eval.specs.Leaving.{leaving}
 use native.Mathlib.Omega.{arith}
-use Rattle.eval.specs.Index.{Ahead}
 use Rattle.eval.proofs.LeavingLaws.{leaving-here, leaving-skip, leaving-end}
 use Rattle.eval.proofs.index.EdgeIndex.step.Goals as goal
 
