@@ -1,4 +1,4 @@
-// The lent list of edges: only edge_at reads a row of it, and only edge_by turns an edge.
+// The lent list of edges: only `Edge::from` reads a row of it, and only `edge_by` turns an edge.
 ghost use Rattle.std.specs.Prelude.{◌≡◌, [], ◌*◌, ◌<◌, length, get_or};
 ghost use Rattle.deck.specs.Content.{deck_of};
 ghost use Rattle.deck.specs.Deck.{role_count, role_of};
@@ -29,6 +29,7 @@ impl From<&[u32; 3]> for Edge {
     }
 }
 
+// That there is such a row is asked for: a place alone does not hold the list.
 pub fn edge_at(edges: &[[u32; 3]], i: usize) -> Edge
     requires { i < length edges.now }
     ensures { result ≡ edge_of (get_or edges.now i []) }

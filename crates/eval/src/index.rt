@@ -1,7 +1,8 @@
 // An index of the edges by where they leave: a loop over the edges of one element goes from run to run of them.
 // A run is edges that follow one another and leave the same element. Words 0 to 2 say which edges are covered and how
 // many runs there are; then come each element's first run and, for each run, where it starts and which is the next one.
-// Runs are counted from 1, and 0 is none: all of it lies in words that are lent, which have no room for an Option.
+// Runs are counted from 1, and 0 is none: all of it lies in words that are lent, which have no room for an Option. A walk
+// holds the number as it stands there.
 ghost use Rattle.std.specs.Prelude.{◌≡◌, true, ℕ, ◌+◌, ◌*◌, ◌<◌, ◌≤◌, length, get_or, set};
 ghost use Rattle.eval.specs.Index.{from_at, used, head, stop_of, Indexed, Ahead, Jumped, Follows, Built, Entered};
 
@@ -97,7 +98,8 @@ impl EdgeIndex<'_> {
     }
 }
 
-// While an index is made, what changes in it is passed as it is: a struct that lends it would be no plainer.
+// While an index is made, what changes in it is passed as it is: a struct that lends it would be no plainer. The edges go whole, with how many
+// there are: an index is of the first ones of a buffer that may go on being filled.
 fn set_word(index: &mut [u32], i: usize, w: u32)
     requires { i < length index.old }
     ensures { index.new ≡ set index.old i w }
@@ -105,7 +107,8 @@ fn set_word(index: &mut [u32], i: usize, w: u32)
     index[i] = w;
 }
 
-// The first n words become 0.
+// The first n words become 0. Beside `clear_first` of atoms, for words of 64 bits: of both types it would take the 0 as a parameter, and be no
+// plainer than `fill`.
 fn clear(index: &mut [u32], n: usize)
     requires { n ≤ length index.old }
     ensures { (length index.new ≡ length index.old) × ((k : ℕ) → k < n → get_or index.new k 0 ≡ 0) }

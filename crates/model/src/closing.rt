@@ -17,7 +17,8 @@ use deck::numbers::{Element, RoleId};
 use eval::edges::Edge;
 use eval::index::{EdgeIndex, make_index};
 
-// An edge of v from x to each element that is ahead and not known, rising.
+// An edge of v from x to each element that is ahead and not known, rising. The `while` stays: an iterator for this one loop would be a type and a
+// law more.
 fn add_ends(b: &mut Build<'_, '_>, v: RoleId, x: Element, marks: &Marks) -> Result<(), Tripped>
     requires room { HasRoom b.old }
     requires elements_bound { b.old.tally.elements ≤ 65536 }
@@ -70,6 +71,7 @@ fn close_pairs(
     let elements = b.tally.elements;
     let seen = b.tally.edges;
     let mut after = 0;
+    // A `loop`: each turn looks anew at the edges, as the turn before may have added some.
     loop {
         let count = b.tally.edges;
         let edges = &mut *b.edges;
@@ -176,7 +178,7 @@ fn close_pass(b: &mut Build<'_, '_>) -> Result<(), Tripped>
     Ok(())
 }
 
-// Closes the edges, pass by pass: until one adds nothing or trips the bound.
+// Closes the edges, pass by pass: until one adds nothing or trips the bound. A `loop`, as only the last pass tells how many there are.
 pub fn close_chains_and_transitivity(b: &mut Build<'_, '_>) -> Result<(), Tripped>
     requires { Closes b.old }
     ensures { Pushed b.old b.new (is_err result) (spec.close (deck_in b.old) b.old.tally.elements b.old.plan.bounds.max_edges (state_of b.old)) }

@@ -47,7 +47,8 @@ fn without(a: u64, b: u64) -> u64
 }
 
 impl Marks {
-    // The next element from z on that is ahead and not known.
+    // The next element from z on that is ahead and not known. A loop of its own beside `next_class` of `FactIndex`: of both, the word of a place
+    // would be a closure, and all that is promised of bits be said of it.
     pub fn next_new(&self, elements: u32, z: u32) -> Option<Element>
         requires { elements ≤ 65536 }
         ensures { Nearest (λ e. e.0) (is_new self.now.ahead self.now.known) z elements result }

@@ -1,4 +1,5 @@
 // The pairs of a role one after the other, "by from then to", each as the number from × 65,536 + to.
+// A pair stays one number: a search goes on from the number after it, and from element to element by 65,536.
 ghost use Rattle.std.specs.Prelude.{◌≡◌, ◌*◌, ◌<◌, ◌≤◌, length, map, false};
 ghost use Rattle.deck.specs.Content.{deck_of};
 ghost use Rattle.deck.specs.Deck.{role_count};
@@ -48,7 +49,8 @@ impl Pairs<'_, '_> {
         best
     }
 
-    // The lowest pair from `after` on, by a look at each edge.
+    // The lowest pair from `after` on, by a look at each edge. Here and in `next_from` best stays a number that is the end while there is none:
+    // an Option would be one case more for `nearer`.
     fn scan(&self, after: u64) -> Option<u64>
         ensures { Nearest (λ k. k) (hits self.now) after (self.now.all.elements * 65536) result }
     {
