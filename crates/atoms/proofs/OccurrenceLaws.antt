@@ -30,7 +30,7 @@ use Rattle.atoms.specs.declared.target_label.Target.{Target}
 use Rattle.atoms.specs.declared.target_label.Target.TheVariants.{Row, Delta, NotClosed}
 use Rattle.atoms.specs.Walk.{walk}
 use Rattle.atoms.specs.Floor.{required_atoms}
-use Rattle.atoms.specs.Reasons.{noted, counted, note, run_delta, has_room}
+use Rattle.atoms.specs.Reasons.{noted, counted, Log, note, run_delta, has_room}
 use Rattle.atoms.specs.Target.{target_of}
 use Rattle.atoms.specs.Body.{delta_by, atom_delta}
 use Rattle.atoms.specs.Occurrences.{capped, sum_of, entry_at, logs, deltas_of, delta_count, noted_deltas, DeltasTo, IsFirst, FirstsTo}
@@ -73,6 +73,14 @@ counted_is t m = go (ltb t 4294967295) refl
     go true e = rw e (omega (arith, ltb-true t 4294967295 e))
     go false e = rw e (omega (arith, ltb-false t 4294967295 e))
 
+-- how the total grows, full or not
+pub walk-total : (xs : List Reason) (g : Log) → g.total ≤ 4294967295 → (walk note xs g).total ≡ capped (g.total + length xs)
+unfolding walk
+walk-total [] g m = omega (arith, m)
+walk-total (x ∷ xs) g m =
+    let e : counted g.total ≡ capped (g.total + 1) = counted_is g.total m in
+    walk-total xs (note x g) (omega (arith, e)) ∙ omega (arith, e)
+
 module _ (words : List ℕ) where
   still_full : (t u : ℕ) → t ≤ u → has_room words t ≡ false → has_room words u ≡ false
   still_full t u l h = not_so (has_room words u) (λ (e : has_room words u ≡ true).
@@ -86,7 +94,7 @@ module _ (words : List ℕ) where
   full-note t x m h = rw h (ap (logs words) (counted_is t m))
 
   -- its words stay, its total grows by the count
-  full-walk : (xs : List Reason) (t : ℕ) → t ≤ 4294967295 → has_room words t ≡ false → walk note xs (logs words t) ≡ logs words (capped (t + length xs))
+  pub full-walk : (xs : List Reason) (t : ℕ) → t ≤ 4294967295 → has_room words t ≡ false → walk note xs (logs words t) ≡ logs words (capped (t + length xs))
   unfolding walk
   full-walk [] t m h = ap (logs words) (omega arith)
   full-walk (x ∷ xs) t m h =

@@ -1,5 +1,6 @@
 -- What a step of building leaves in the buffers, and steps one after the other.
 --     built-same, built-trans, built-is     no step, two steps, the same model
+--     built-log                             another log, and another total of reasons
 --     built-note, built-trip                a reason, and one that ends building
 --     reach-full, reach-link                a label interned, and the edge to it
 --     OnModel                               every loop that walks a list
@@ -29,6 +30,7 @@ use Rattle.build.specs.Intern.{interned, Placed, Held}
 use Rattle.atoms.specs.Reasons.{noted, counted, bound_tripped}
 use Rattle.build.specs.Push.{State, edge, push_edge, start, quiet, Left, Room}
 use Rattle.build.specs.Model.{Model, note_state, trip_state, note_in, trip_in, reach, linked, Buffers, lent, begun, top, among, Prepared, Built}
+use Rattle.build.specs.Again.{of_total}
 use Rattle.atoms.proofs.RowLaws.{length-rows}
 use Rattle.build.proofs.InternLaws.{held_start, held_rows, held-length, held_on, held-intern, interned-grows}
 use Rattle.build.proofs.PushLaws.{left-same, left-trans, left-start, left-quiet, left-tripped, left-room, noted-length}
@@ -150,6 +152,30 @@ module _ {s : List ℕ} {B : Bounds} {b : Buffers} {t : Tally} {floor label : Li
     few = λ e. P.few;
     wide = P.label-wide;
   }
+
+  -- another log of its length, another total of reasons, and another label in the making
+  pub built-log : (g : List ℕ) → length g ≡ length b.log → (n : ℕ) → {l : List ℕ} → length l ≡ label_width (deck_of s)
+      → Built (deck_of s) B b t (lent b.labels b.edges g) l (quiet (of_total n t)) (begun (deck_of s) (lent b.labels b.edges g) (of_total n t))
+  built-log g size n wide =
+      let L = left-same B.max_edges b.edges b.log t P.space in
+      record {
+        held = built-same.held;
+        left = record {
+          is = refl;
+          words = L.words;
+          old = refl;
+          elements = refl;
+          size = refl;
+          log-size = size;
+          grown = L.grown;
+          room = L.room;
+          within = L.within;
+        };
+        more = omega arith;
+        most = omega (arith, P.few);
+        few = λ e. P.few;
+        wide = wide;
+      }
 
   -- what follows a step that tripped no bound is prepared
   pub prepared-after : {b' : Buffers} {l : List ℕ} {r : Step} {m : Model} → Built (deck_of s) B b t b' l r m → r.tripped ≡ false → Prepared s B b' r.tally floor l

@@ -1,7 +1,7 @@
 -- Steps of a structure in the making, one after the other.
 --     same-refl, same-trans         what is only read, and the slices
 --     pushed-same, pushed-trans     steps that add edges alone
---     holds-same, holds-trans, holds-is, holds-pushed, holds-start, ready-at, ready-after    steps that build
+--     holds-same, holds-counted, holds-trans, holds-is, holds-pushed, holds-start, ready-at, ready-after    steps that build
 --     Walking                       every loop that walks a list
 use mathlib.Core.Bool.{Bool, true, false}
 use mathlib.Core.Path.{◌≡◌, refl, ◌∙◌}
@@ -10,11 +10,13 @@ use Rattle.build.specs.declared.plan.Plan.{Plan}
 use Rattle.build.specs.declared.building.Build.{Build}
 use Rattle.atoms.specs.Walk.{walk}
 use Rattle.build.specs.Push.{State}
+use Prim.Native.Nat.{ℕ}
 use native.Mathlib.Omega.{arith}
-use Rattle.build.specs.Model.{Model, with_state, Built}
+use Rattle.build.specs.Model.{Model, with_state, begun, Built}
+use Rattle.build.specs.Again.{of_total}
 use Rattle.build.specs.Building.{deck_in, buffers, step_to, model_of, model_by, state_of, HasRoom, Ready, Same, Pushed, Holds}
 use Rattle.build.proofs.PushLaws.{left-same, left-trans}
-use Rattle.build.proofs.BuildLaws.{left-among, prepared-after, built-same, built-trans, built-is, built-start, OnModel, model-start, model-next, model-stop, model-done}
+use Rattle.build.proofs.BuildLaws.{left-among, prepared-after, built-same, built-log, built-trans, built-is, built-start, OnModel, model-start, model-next, model-stop, model-done}
 
 pub same-refl : {b : Build} → Same b b
 same-refl = record { plan = refl; label = refl; labels = refl; edges = refl; log = refl }
@@ -38,6 +40,10 @@ pushed-trans P Q = record { same = same-trans P.same Q.same; label = Q.label ∙
 -- ---- steps that build
 pub holds-same : {b : Build} → Ready b → Holds b b false (model_of b)
 holds-same P = record { same = same-refl; built = built-same P }
+
+-- reasons that are counted alone
+pub holds-counted : {a : Build} (n : ℕ) → Ready a → Holds a (record { plan = a.plan; label = a.label; labels = a.labels; edges = a.edges; log = a.log; tally = of_total n a.tally }) false (begun (deck_in a) (buffers a) (of_total n a.tally))
+holds-counted {a} n P = record { same = record { plan = refl; label = refl; labels = refl; edges = refl; log = refl }; built = built-log P a.log.now refl n P.label-wide }
 
 pub holds-is : {a b : Build} {r : Bool} {m k : Model} → Holds a b r m → m ≡ k → Holds a b r k
 holds-is H e = rw e at H

@@ -36,9 +36,8 @@ use Rattle.build.specs.Model.{Model, reach, Buffers, lent, begun, Prepared, Buil
 use Rattle.build.specs.Exists.{body_label, reach_body, work_of, work_step, idle, work}
 use Rattle.atoms.specs.Body.{Joined, body_of}
 use Rattle.atoms.proofs.FloorLaws.{read_is, fits_read}
-use Rattle.build.proofs.PushLaws.{left-same}
 use Rattle.atoms.proofs.WalkLaws.{walk_same}
-use Rattle.build.proofs.BuildLaws.{built-same, built-is, built-quiet, built-start, built-trans, built-tripped, prepared-after}
+use Rattle.build.proofs.BuildLaws.{built-same, built-log, built-is, built-quiet, built-start, built-trans, built-tripped, prepared-after}
 
 module _ (D : Deck) (floor : List ℕ) (B : Bounds) where
   pub work-stuck : (c e : ℕ) (m : Model) → m.state.tripped ≡ true → work D floor B c e m ≡ m
@@ -144,26 +143,7 @@ module _ {s : List ℕ} {B : Bounds} {b : Buffers} {t : Tally} {floor label : Li
   after = record { elements = t.elements; edges = t.edges; reasons = n }
 
   body-built : Built (deck_of s) B b t (lent b.labels b.edges g) l (quiet after) (begun (deck_of s) (lent b.labels b.edges g) after)
-  body-built =
-      let L = left-same B.max_edges b.edges b.log t P.space in
-      record {
-        held = (built-same P).held;
-        left = record {
-          is = refl;
-          words = L.words;
-          old = refl;
-          elements = refl;
-          size = refl;
-          log-size = size;
-          grown = L.grown;
-          room = L.room;
-          within = L.within;
-        };
-        more = omega arith;
-        most = omega (arith, P.few);
-        few = λ e. P.few;
-        wide = wide;
-      }
+  body-built = built-log P g size n wide
 
   pub body-ready : Prepared s B (lent b.labels b.edges g) after floor l
   body-ready = prepared-after P body-built refl

@@ -1,13 +1,14 @@
 -- Consequents that add nothing.
 --     either                        both sides of a test come to the same
 --     no-build, form-idle           by the form of the concept
---     skipped-idle                  or by the table of quiet walks
+--     skipped-is                    a walk that is passed over, by its form or by the table
 --     builds-and, …, builds-other   whether a concept that was read goes further
-use Prim.Native.Nat.{ℕ, ◌≤◌}
+use Prim.Native.Nat.{ℕ, ◌+◌, ◌≤◌}
 use mathlib.Core.Bool.{Bool, true, false, cond, not}
 use mathlib.Core.Path.{◌≡◌, refl, sym, ap, ◌∙◌}
 use mathlib.Core.List.{List, [], ◌∷◌}
-use mathlib.Core.Logic.{⊎_elim}
+use mathlib.Core.Logic.{⊎_elim, ◌⊎◌}
+use native.Mathlib.Omega.{arith}
 use lib.ListN.{length}
 use types.Run.{OneOf, miss}
 use denote.Enum.Declared.{tag_of}
@@ -27,8 +28,11 @@ use Rattle.build.specs.declared.bounds.Bounds.{Bounds}
 use Rattle.build.specs.declared.tally.Tally.{Tally}
 use Rattle.build.specs.Model.{Model, Buffers, begun}
 use Rattle.build.specs.Exists.{builds, builds_at, work_of, work_step, work}
-use Rattle.build.specs.Quiet.{Known, Quiet, Skipped}
-use Rattle.build.proofs.QuietLaws.{known-idle}
+use Rattle.build.specs.declared.again.Walked.{Walked}
+use Rattle.build.specs.Again.{of_total, Known, Right, Skipped}
+use Rattle.build.proofs.AgainLaws.{known-is}
+use Rattle.atoms.specs.Reasons.{has_room}
+use Rattle.atoms.specs.Occurrences.{capped}
 
 pub either : {A : Type 0} (b : Bool) {x y z : A} → x ≡ z → y ≡ z → cond b x y ≡ z
 either true p q = p
@@ -55,9 +59,15 @@ pub form-idle : (D : Deck) (floor : List ℕ) (B : Bounds) (c e : ℕ) (m : Mode
 unfolding work numbered work_step builds_at
 form-idle D floor B c e m h = either m.state.tripped refl (no-build D floor B _ e m (concept_at D c) h)
 
-pub skipped-idle : {D : Deck} {floor : List ℕ} {B : Bounds} {table : List ℕ} (b : Buffers) {t : Tally} {o e : ℕ} → Quiet D floor B table (begun D b t) → t.edges ≤ length b.edges → Skipped D table t o e → begun D b t ≡ work D floor B o e (begun D b t)
-skipped-idle {D} {floor} {B} {table} b {t} {o} {e} Q h =
-    ⊎_elim (λ (f : builds_at D o ≡ false). sym (form-idle D floor B o e (begun D b t) f)) (λ (k : Known table t o e). known-idle b Q h k)
+-- a walk that is passed over
+pub skipped-is : {D : Deck} {floor : List ℕ} {B : Bounds} {table : List Walked} (b : Buffers) {t : Tally} {o e n : ℕ} → Right D floor B table (begun D b t) → t.edges ≤ length b.edges → t.reasons ≤ 4294967295 → Skipped D table b.log t o e n
+    → {r : ℕ} → r ≡ capped (t.reasons + n) → begun D b (of_total r t) ≡ work D floor B o e (begun D b t)
+skipped-is {D} {floor} {B} {table} b {t} {o} {e} {n} R h l k {r} p =
+    ⊎_elim
+    (λ (f : (builds_at D o ≡ false) × (n ≡ 0)).
+    let same : r ≡ t.reasons = omega (arith, p, f.1, l) in
+    ap (λ (r : ℕ). begun D b (of_total r t)) same ∙ sym (form-idle D floor B o e (begun D b t) f.0))
+    (λ (k : Known table t o e n × ((n ≡ 0) ⊎ (has_room b.log t.reasons ≡ false))). known-is b R h l k.0 k.1 p) k
 
 -- a concept that is neither an And nor a Some
 not-builds : (s : List ℕ) (v : ConceptExpr) → OneOf (0 ∷ 1 ∷ 2 ∷ 3 ∷ 4 ∷ 5 ∷ 7 ∷ 9 ∷ 10 ∷ 11 ∷ []) (tag_of the_type v) → false ≡ builds (expr_of s v)

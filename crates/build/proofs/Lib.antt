@@ -7,6 +7,6 @@ pub mod BuildingLaws
 pub mod TailLaws
 pub mod ExistsLaws
 pub mod GrowLaws
-pub mod QuietLaws
-pub mod OnLaws
+pub mod GivesLaws
+pub mod AgainLaws
 pub mod IdleLaws

@@ -4,5 +4,5 @@ pub mod Seed
 pub mod Push
 pub mod Model
 pub mod Exists
-pub mod Quiet
+pub mod Again
 pub mod Building

@@ -6,11 +6,10 @@ ghost use Rattle.build.specs.Intern.{index_of};
 ghost use Rattle.atoms.specs.Walk.{walk};
 ghost use Rattle.build.specs.Exists as spec;
 ghost use Rattle.build.specs.Building.{Ready, Holds, deck_in, model_of, model_by};
-ghost use Rattle.build.specs.Quiet.{Quiet};
+ghost use Rattle.build.specs.Again.{Right};
 
+use crate::again::{Walked, remember};
 use crate::building::{Build, Tripped};
-use crate::idle::is_idle;
-use crate::quiet::keep_quiet;
 use atoms::body::body_label_known;
 use atoms::visits::is_short;
 use deck::concepts::ConceptExpr;
@@ -21,7 +20,7 @@ impl Build<'_, '_> {
     // The element that a Some of the role with the body leads to, and the edge to it. A walk whose table remembers none is short, and so is that of the body.
     fn reach_body(
         &mut self,
-        memo: &[u64],
+        memo: &[Walked],
         role: RoleId,
         concept: ConceptId,
         from: Element,
@@ -46,19 +45,19 @@ impl Build<'_, '_> {
         self.reach(role, from, 0)
     }
 
-    // Every Some of the concept that an And or a Some leads to, from element e on. A turn goes down a Some, so only an And takes stack. The table has walks that change nothing, and takes more of them in.
+    // Every Some of the concept that an And or a Some leads to, from element e on. A turn goes down a Some, so only an And takes stack. The table has walks that were made before, and takes more of them in.
     #[cycle(work_concept_work_operands)]
     fn work_concept(
         &mut self,
-        memo: &mut [u64],
+        memo: &mut [Walked],
         concept: ConceptId,
         e: Element,
     ) -> Result<(), Tripped>
         requires ready { Ready self.old }
         requires concept_bound { concept.0 < concept_count (deck_in self.old) }
-        requires quiet { Quiet (deck_in self.old) self.old.plan.floor.now self.old.plan.bounds memo.old (model_of self.old) }
+        requires right { Right (deck_in self.old) self.old.plan.floor.now self.old.plan.bounds memo.old (model_of self.old) }
         ensures holds { Holds self.old self.new (is_err result) (spec.work (deck_in self.old) self.old.plan.floor.now self.old.plan.bounds concept.0 e.0 (model_of self.old)) }
-        ensures known { OnOk result (Quiet (deck_in self.old) self.old.plan.floor.now self.old.plan.bounds memo.new (model_by self.old self.new)) }
+        ensures known { OnOk result (Right (deck_in self.old) self.old.plan.floor.now self.old.plan.bounds memo.new (model_by self.old self.new)) }
     {
         // A `loop`: each turn goes on from what the Some before it led to.
         let deck = self.plan.deck;
@@ -81,11 +80,11 @@ impl Build<'_, '_> {
         }
     }
 
-    // The same of each concept of the list, all below `owner`, but for those that are known to add nothing.
+    // The same of each concept of the list, all below `owner`, but for those that are passed over: what these give is counted.
     #[cycle(work_concept_work_operands)]
     fn work_operands(
         &mut self,
-        memo: &mut [u64],
+        memo: &mut [Walked],
         owner: ConceptId,
         list: Span,
         e: Element,
@@ -93,24 +92,25 @@ impl Build<'_, '_> {
         requires ready { Ready self.old }
         requires owner_bound { owner.0 < concept_count (deck_in self.old) }
         requires list_fits { ListFits self.old.plan.deck.bytes.now owner.0 list }
-        requires quiet { Quiet (deck_in self.old) self.old.plan.floor.now self.old.plan.bounds memo.old (model_of self.old) }
+        requires right { Right (deck_in self.old) self.old.plan.floor.now self.old.plan.bounds memo.old (model_of self.old) }
         ensures holds { Holds self.old self.new (is_err result) (walk (λ o. spec.work (deck_in self.old) self.old.plan.floor.now self.old.plan.bounds o e.0) (list_of self.old.plan.deck.bytes.now list) (model_of self.old)) }
-        ensures known { OnOk result (Quiet (deck_in self.old) self.old.plan.floor.now self.old.plan.bounds memo.new (model_by self.old self.new)) }
+        ensures known { OnOk result (Right (deck_in self.old) self.old.plan.floor.now self.old.plan.bounds memo.new (model_by self.old self.new)) }
     {
         let deck = self.plan.deck;
         for i in 0..list.count {
             let o = ConceptId(deck.item(list, i));
             let held = self.tally;
-            if is_idle(&deck, memo, held, o, e) {
+            if let Some(n) = self.passed_over(memo, o, e) {
+                self.tally.reasons = held.reasons.saturating_add(n);
                 continue;
             }
             self.work_concept(memo, o, e)?;
-            keep_quiet(memo, held, self.tally, o, e);
+            remember(memo, held, self.tally, o, e);
         }
         Ok(())
     }
 
-    // The same with a table of N words, whose room is made in a frame of its own. One of 1 word remembers no walk, and costs nothing to clear.
+    // The same with a table of N walks, whose room is made in a frame of its own. One of 1 remembers none, and costs nothing to clear.
     #[inline(never)]
     fn work_with<const N: usize>(&mut self, concept: ConceptId, e: Element) -> Result<(), Tripped>
         requires words { (0 < N) × (N ≤ 16384) }
@@ -118,11 +118,11 @@ impl Build<'_, '_> {
         requires concept_bound { concept.0 < concept_count (deck_in self.old) }
         ensures { Holds self.old self.new (is_err result) (spec.work (deck_in self.old) self.old.plan.floor.now self.old.plan.bounds concept.0 e.0 (model_of self.old)) }
     {
-        let mut memo: [u64; N] = [0; N];
+        let mut memo: [Walked; N] = [Walked { word: 0, reasons: 0 }; N];
         self.work_concept(&mut memo, concept, e)
     }
 
-    // Every Some of the concept that an And or a Some leads to, from element e on. Where that walk is not short, by the sizes of the first concepts, no walk that changes nothing is made twice.
+    // Every Some of the concept that an And or a Some leads to, from element e on. Where that walk is not short, by the sizes of the first concepts, no walk that leaves elements and edges as they were is made twice where its reasons would not be written.
     pub fn materialise_exists(
         &mut self,
         sizes: &[u8],

@@ -1,12 +1,14 @@
-// Consequents that add nothing: by their form, or as the table of quiet walks tells.
-ghost use Rattle.std.specs.Prelude.{◌≡◌, true, ◌<◌};
+// Consequents whose walk is passed over: by their form, or as the table of walks tells.
+ghost use Rattle.std.specs.Prelude.{◌≡◌, ◌<◌, ◌≤◌, IfSome};
 ghost use Rattle.deck.specs.Content.{deck_of};
 ghost use Rattle.deck.specs.Deck.{concept_count};
 ghost use Rattle.build.specs.Exists.{builds_at};
-ghost use Rattle.build.specs.Quiet.{Skipped};
+ghost use Rattle.build.specs.Building.{deck_in};
+ghost use Rattle.build.specs.Again.{Skipped};
 
-use crate::quiet::is_quiet;
-use crate::tally::Tally;
+use crate::again::{Walked, reasons_again};
+use crate::building::Build;
+use atoms::reasons::has_room;
 use deck::Deck;
 use deck::concepts::ConceptExpr;
 use deck::numbers::{ConceptId, Element};
@@ -24,13 +26,22 @@ pub fn goes_on(deck: &Deck, concept: ConceptId) -> bool
     }
 }
 
-// Is the walk of concept o from element e known to change nothing while the tally is t?
-pub fn is_idle(deck: &Deck, memo: &[u64], t: Tally, o: ConceptId, e: Element) -> bool
-    requires o_bound { o.0 < concept_count (deck_of deck.now.bytes.now) }
-    ensures { result ≡ true → Skipped (deck_of deck.now.bytes.now) memo.now t o.0 e.0 }
-{
-    if goes_on(deck, o) {
-        return is_quiet(memo, t, o, e);
+impl Build<'_, '_> {
+    // Where the walk of concept o from element e is passed over, how many reasons it gives: none where it adds nothing, and those that the table has where the log takes no more of them in.
+    pub fn passed_over(&self, memo: &[Walked], o: ConceptId, e: Element) -> Option<u32>
+        requires concept_bound { o.0 < concept_count (deck_in self.now) }
+        ensures skipped { IfSome result (λ n. Skipped (deck_in self.now) memo.now self.now.log.now self.now.tally o.0 e.0 n) }
+        ensures total { self.now.tally.reasons ≤ 4294967295 }
+    {
+        let total = self.tally.reasons;
+        let deck = self.plan.deck;
+        if !goes_on(&deck, o) {
+            return Some(0);
+        }
+        let n = reasons_again(memo, self.tally, o, e)?;
+        if n == 0 || !has_room(self.log, total) {
+            return Some(n);
+        }
+        None
     }
-    true
 }

@@ -1,6 +1,7 @@
 // What building a structure is made of: elements by their labels, edges, seeding, and building out a consequent: document 01, section 3.
 #![tactic(auto)]
 
+pub mod again;
 pub mod bounds;
 pub mod building;
 pub mod exists;
@@ -9,7 +10,6 @@ pub mod intern;
 pub mod plan;
 pub mod prints;
 pub mod push;
-pub mod quiet;
 pub mod reach;
 pub mod seed;
 pub mod tally;

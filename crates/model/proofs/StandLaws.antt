@@ -21,7 +21,7 @@ use Rattle.model.specs.declared.still.Still.{Still}
 use Rattle.model.specs.declared.still.Still.TheVariants.{Unknown, Others, All}
 use Rattle.build.specs.Model.{Model, Buffers, begun, Prepared, Built}
 use Rattle.build.specs.Exists.{work}
-use Rattle.build.specs.Quiet.{unchanged, model_size, LiveModel}
+use Rattle.build.specs.Again.{model_size, LiveModel}
 use Rattle.model.specs.Rounds.{fire, fire_pair, fire_from}
 use Rattle.atoms.specs.Antecedent.{is_rule, holds_atoms}
 use Rattle.model.specs.Still.{idles, Stands, passes, joined, after}
@@ -29,7 +29,7 @@ use Rattle.atoms.proofs.WalkLaws.{walk-keeps}
 use Rattle.build.proofs.BuildLaws.{built-start}
 use Rattle.build.proofs.IdleLaws.{either}
 use Rattle.model.proofs.StillLaws.{from-grows, others-still}
-use Rattle.build.proofs.QuietLaws.{Same, same_of, begun-size}
+use Rattle.build.proofs.AgainLaws.{begun-size}
 
 -- ---- members by their numbers
 -- the pairs of a member that is passed over go to others, which idle

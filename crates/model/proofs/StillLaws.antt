@@ -13,8 +13,9 @@ use Rattle.model.specs.Rounds.{fire, fire_pair, fire_from}
 use Rattle.atoms.specs.Antecedent.{is_rule, holds_atoms}
 use Rattle.build.proofs.InternLaws.{by_cond}
 use Rattle.model.proofs.RoundLaws.{pair-differs}
-use Rattle.build.specs.Quiet.{model_size, LiveModel}
-use Rattle.build.proofs.GrowLaws.{grows_same, walk-grows, each-still, Builds, work-grows}
+use Rattle.build.specs.Again.{model_size, LiveModel}
+use Rattle.build.proofs.GrowLaws.{grows_same, walk-grows, each-still, Builds}
+use Rattle.build.proofs.GivesLaws.{work-grows}
 
 module _ (D : Deck) (floor : List ℕ) (B : Bounds) where
   -- ---- the pairs of a member at an element

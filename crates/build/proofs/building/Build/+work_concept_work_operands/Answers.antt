@@ -1,11 +1,12 @@
 use Rattle.std.proofs.Common.{refl, sym, ◌∙◌, ◌≤◌, length, arith}
 use Rattle.std.proofs.lemmas.Result.{err_from_is_err_and}
 use borrow.Enum.Refused.{opened}
-use Rattle.build.proofs.BuildingLaws.{same-refl, same-trans, ready-at, walking-start, walking-ready, walking-skip, walking-next, walking-stop, walking-done}
-use Rattle.build.proofs.QuietLaws.{quiet-reached, quiet-kept}
-use Rattle.build.proofs.IdleLaws.{skipped-idle}
+use Rattle.build.proofs.BuildingLaws.{same-refl, same-trans, holds-counted, holds-is, ready-at, walking-start, walking-ready, walking-next, walking-stop, walking-done}
+use Rattle.build.proofs.AgainLaws.{right-reached, right-passed, more-reasons, right-kept}
+use Rattle.build.proofs.IdleLaws.{skipped-is}
 use Rattle.build.proofs.ExistsLaws.{work-stuck, and-leaves, inverse-leaves, some-stops, some-goes, other-leaves, descending-start, descending-next, descending-ends}
 use Rattle.build.proofs.BuildLaws.{prepared-after}
+use Rattle.build.specs.Building.{buffers}
 use Rattle.atoms.proofs.FloorLaws.{fits_read}
 use Rattle.atoms.proofs.WalkLaws.{operand}
 use Rattle.deck.proofs.TableLaws.{list_length}
@@ -15,7 +16,7 @@ use Rattle.build.proofs.building.Build.+work_concept_work_operands.Goals as goal
 
 pub work_concept-loop-l-init : goal.work_concept-loop-l-init
 work_concept-loop-l-init t c =
-    (same-refl, refl, descending-start c.requires.ready _ _, c.requires.quiet)
+    (same-refl, refl, descending-start c.requires.ready _ _, c.requires.right)
 
 pub work_concept-work_operands-requires : goal.work_concept-work_operands-requires
 work_concept-work_operands-requires t c =
@@ -57,7 +58,7 @@ work_concept-loop-l-preserved t c =
     let Z = rw G.0.plan at X.holds.built in
     let f = fits_read _ A c.loop-l.c.0 c.concept_at-expr.ensures _ c.in-Some.is in
     let Y = some-goes _ A c.loop-l.c.0 c.concept_at-expr.ensures _ _ _ _ _ _ _ c.in-Some.is (sym c.is_inverse.ensures ∙ c.if-is_inverse.false) c.role_id-r.ensures Z refl (rw G.0.plan at X.place) in
-    (same-trans G.0 X.holds.same, G.1, descending-next G.2 Z refl f.1 Y, quiet-reached G.3 _ _ _ Z refl)
+    (same-trans G.0 X.holds.same, G.1, descending-next G.2 Z refl f.1 Y, right-reached G.3 _ _ _ Z refl)
 
 pub work_concept-returns-in_default : goal.work_concept-returns-in_default
 work_concept-returns-in_default t c =
@@ -67,16 +68,25 @@ work_concept-returns-in_default t c =
 
 pub work_operands-loop-i-init : goal.work_operands-loop-i-init
 work_operands-loop-i-init t c =
-    (refl, walking-start _ _ c.requires.ready, c.requires.quiet)
+    (refl, walking-start _ _ c.requires.ready, c.requires.right)
 
-pub work_operands-loop-i-preserved-then-is_idle : goal.work_operands-loop-i-preserved-then-is_idle
-work_operands-loop-i-preserved-then-is_idle t c =
+pub work_operands-loop-i-preserved-in-Some : goal.work_operands-loop-i-preserved-in-Some
+work_operands-loop-i-preserved-in-Some t c =
     let G = c.loop-i.invariant in
+    let Z = G.1.same.plan in
     let l = c.args.list in
     let s = c.args.self.now.plan.deck.bytes.now in
-    let P = prepared-after c.requires.ready G.1.on.built refl in
+    let P = walking-ready G.1 c.requires.ready in
     let q = operand (list_of s l) c.loop-i.i (omega (arith, list_length s l.start l.count)) c.item.ensures in
-    (G.0, walking-skip G.1 q c.requires.ready (skipped-idle _ G.2 (omega (arith, P.space.bound, P.space.room)) (c.is_idle.ensures c.if-is_idle.true)), G.2)
+    let e = skipped-is (buffers c.loop-i.self) (rw Z G.2) (omega (arith, P.space.bound, P.space.room)) c.passed_over.ensures.total c.in-Some.ensures.skipped c.saturating_add-self.ensures in
+    (G.0, walking-next G.1 q (holds-is (holds-counted c.saturating_add-self.result P) e) refl, right-passed _ _ G.2 (rw Z at e))
+
+pub work_operands-remember-requires : goal.work_operands-remember-requires
+work_operands-remember-requires t c =
+    let G = c.loop-i.invariant in
+    let Z = G.1.same.plan in
+    let X = c.in_ok-work_concept.ensures in
+    more-reasons (prepared-after c.requires.ready G.1.on.built refl) c.passed_over.ensures.total _ _ (rw Z at X.holds.built) refl
 
 pub work_operands-work_concept-requires : goal.work_operands-work_concept-requires
 work_operands-work_concept-requires t c =
@@ -102,7 +112,7 @@ work_operands-loop-i-preserved t c =
     let s = c.args.self.now.plan.deck.bytes.now in
     let X = c.in_ok-work_concept.ensures in
     let q = operand (list_of s l) c.loop-i.i (omega (arith, list_length s l.start l.count)) c.item.ensures in
-    (c.keep_quiet.auto.memo ∙ c.work_concept.auto.memo ∙ G.0, walking-next G.1 q X.holds refl, quiet-kept (prepared-after c.requires.ready G.1.on.built refl) _ _ (rw Z at X.holds.built) refl (rw Z at X.known) c.keep_quiet.ensures)
+    (c.remember.auto.memo ∙ c.work_concept.auto.memo ∙ G.0, walking-next G.1 q X.holds refl, right-kept (prepared-after c.requires.ready G.1.on.built refl) c.passed_over.ensures.total _ _ (rw Z at X.holds.built) refl (rw Z at X.known) c.remember.ensures)
 
 pub work_operands-returns-clause-holds : goal.work_operands-returns-clause-holds
 work_operands-returns-clause-holds t c =

@@ -1,0 +1,69 @@
+// Walks of a concept from an element that left elements and edges as they were, remembered in a lent table until the structure has grown: made again, each gives as many reasons as before. A table of fewer than 16,384 walks remembers none; an `Option` of a table is no plainer, as a loop would have to lend out what it holds anew for each call.
+// The tally goes beside the table, as it is the build's.
+ghost use Rattle.std.specs.Prelude.{◌≡◌, true, ◌<◌, ◌≤◌, IfSome};
+ghost use Rattle.build.specs.Again.{size_of, word_of, Worded, Known, Kept};
+
+use crate::tally::Tally;
+use deck::numbers::{ConceptId, Element};
+
+// A walk, by its word, and how many reasons it gave. The word of none is 0.
+#[derive(Clone, Copy)]
+pub struct Walked {
+    pub word: u64,
+    pub reasons: u32,
+}
+
+// Is there a word for concept o at element e?
+fn has_word(o: ConceptId, e: Element) -> bool
+    ensures { result ≡ true → Worded o.0 e.0 }
+{
+    o.0 < 16384 && e.0 < 65536
+}
+
+// The word: the size of the structure and one, then the element in 16 bits, then the concept in 14.
+fn word(t: Tally, o: ConceptId, e: Element) -> u64
+    requires { Worded o.0 e.0 }
+    ensures { result ≡ word_of (size_of t) o.0 e.0 }
+{
+    let size = t.elements as u64 + t.edges as u64;
+    (size + 1) * 1073741824 + (e.0 as u64 * 16384 + o.0 as u64)
+}
+
+// Where it stands: the concepts at one element have places of their own, and elements lie far apart.
+fn place(o: ConceptId, e: Element) -> usize
+    requires { Worded o.0 e.0 }
+    ensures { result < 16384 }
+{
+    ((e.0 * 10125 + o.0) % 16384) as usize
+}
+
+// How many reasons the walk of concept o from element e gives while the tally is t, where the table has it.
+pub fn reasons_again(memo: &[Walked], t: Tally, o: ConceptId, e: Element) -> Option<u32>
+    ensures { IfSome result (λ n. Known memo.now t o.0 e.0 n) }
+{
+    if memo.len() < 16384 || !has_word(o, e) {
+        return None;
+    }
+    let known = memo[place(o, e)];
+    if known.word != word(t, o, e) {
+        return None;
+    }
+    Some(known.reasons)
+}
+
+// Remembers the walk of concept o from element e, which took the tally from t to u, where it left elements and edges as they were.
+pub fn remember(memo: &mut [Walked], t: Tally, u: Tally, o: ConceptId, e: Element)
+    requires { t.reasons ≤ u.reasons }
+    ensures { Kept memo.old memo.new t u o.0 e.0 }
+{
+    if memo.len() < 16384 || !has_word(o, e) {
+        return;
+    }
+    if t.elements != u.elements || t.edges != u.edges {
+        return;
+    }
+    memo[place(o, e)] = Walked {
+        word: word(u, o, e),
+        reasons: u.reasons - t.reasons,
+    };
+}
