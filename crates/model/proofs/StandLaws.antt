@@ -13,7 +13,7 @@ use borrow.Author.Tests.{eq-eqb, eqb-true, eqb-false}
 use Rattle.deck.specs.declared.numbers.ConceptId.{ConceptId}
 use Rattle.deck.specs.Deck.{Deck}
 use Rattle.deck.specs.Content.{deck_of}
-use Rattle.eval.proofs.Clash.{clash}
+use Rattle.eval.proofs.Clash.{clash, both_true}
 use Rattle.build.specs.declared.bounds.Bounds.{Bounds}
 use Rattle.build.specs.declared.tally.Tally.{Tally}
 use Rattle.build.specs.Push.{Step}
@@ -21,7 +21,7 @@ use Rattle.model.specs.declared.still.Still.{Still}
 use Rattle.model.specs.declared.still.Still.TheVariants.{Unknown, Others, All}
 use Rattle.build.specs.Model.{Model, Buffers, begun, Prepared, Built}
 use Rattle.build.specs.Exists.{work}
-use Rattle.build.specs.Again.{model_size, LiveModel}
+use Rattle.build.specs.Again.{structure_size, model_size, LiveModel}
 use Rattle.model.specs.Rounds.{fire, fire_pair, fire_from}
 use Rattle.atoms.specs.Antecedent.{is_rule, holds_atoms}
 use Rattle.model.specs.Still.{idles, Stands, passes, joined, after}
@@ -30,6 +30,21 @@ use Rattle.build.proofs.BuildLaws.{built-start}
 use Rattle.build.proofs.IdleLaws.{either}
 use Rattle.model.proofs.StillLaws.{from-grows, others-still}
 use Rattle.build.proofs.AgainLaws.{begun-size}
+
+-- ---- the counts stand
+abbrev unchanged : Tally → Tally → Bool
+unchanged t u = eqb t.elements u.elements && (eqb t.edges u.edges && eqb t.reasons u.reasons)
+
+record Same (t u : Tally) : Type 0 where
+  elements : t.elements ≡ u.elements
+  edges : t.edges ≡ u.edges
+  reasons : t.reasons ≡ u.reasons
+
+same_of : (t u : Tally) → unchanged t u ≡ true → Same t u
+same_of t u h =
+    let x = both_true (eqb t.elements u.elements) (eqb t.edges u.edges && eqb t.reasons u.reasons) h in
+    let y = both_true (eqb t.edges u.edges) (eqb t.reasons u.reasons) x.1 in
+    record { elements = eqb-true t.elements u.elements x.0; edges = eqb-true t.edges u.edges y.0; reasons = eqb-true t.reasons u.reasons y.1 }
 
 -- ---- members by their numbers
 -- the pairs of a member that is passed over go to others, which idle
@@ -82,8 +97,8 @@ module _ {s : List ℕ} {B : Bounds} {b : Buffers} {t : Tally} {floor label : Li
 
   size-stands : Same t r.tally → model_size m' ≡ model_size m
   size-stands S =
-      let now : model_size (begun D b' r.tally) ≡ r.tally.elements + (r.tally.edges + r.tally.reasons) = begun-size D b' r.tally X.left.room in
-      let was : model_size m ≡ t.elements + (t.edges + t.reasons) = begun-size D b t (omega (arith, P.space.bound, P.space.room)) in
+      let now : structure_size (begun D b' r.tally) ≡ r.tally.elements + r.tally.edges = begun-size D b' r.tally X.left.room in
+      let was : structure_size m ≡ t.elements + t.edges = begun-size D b t (omega (arith, P.space.bound, P.space.room)) in
       let q : model_size (begun D b' r.tally) ≡ model_size m' = ap model_size (built-start X w) in
       omega (arith, q, now, was, S.elements, S.edges, S.reasons)
 
