@@ -896,14 +896,17 @@ def nested():
     case('shared-ands', 'open', d, [(1,)], [(0, 0, 0)], [(RUN_DELTA, 1, 0)] * 16)
 
 
-class Again(collections.namedtuple('Again', 'reason times')):
-    """A reason given again and again: as long as a list of it, without being one."""
+class Again:
+    """A few reasons given again and again, in turn: as long as a list of them, without being one."""
+
+    def __init__(self, reasons, times):
+        self.reasons, self.times = reasons, times
 
     def __len__(self):
         return self.times
 
     def __getitem__(self, places):
-        return [self.reason] * len(range(*places.indices(self.times)))
+        return [self.reasons[k % len(self.reasons)] for k in range(*places.indices(self.times))]
 
 
 def universal_top(levels, base=TOP):
@@ -960,6 +963,22 @@ def body_deltas(levels):
     return d.sub_class(1, d.some(0, d.doubled(levels, 1)))
 
 
+def consequent_deltas(levels):
+    d = Rows(own(2), [((0,), (0,))], unsat={0}, injected=[(1, 0, 0)]).atoms()
+    return d.sub_class(1, d.doubled(levels, d.some(0, 1)))
+
+
+def consequent_open(levels):
+    """The range of the role is class 3, which no row has: LabelNotClosed of the one atom and of the other, in turn."""
+    d = Rows(own(4), [((0,), (3,))]).atoms()
+    return d.sub_class(0, d.doubled(levels, d.both(d.some(0, 1), d.some(0, 2))))
+
+
+DELTA = (RUN_DELTA, 1, 0)
+GIVEN_AGAIN = (('deltas', body_deltas, [DELTA]), ('consequent-deltas', consequent_deltas, [DELTA]),
+               ('consequent-open', consequent_open, [(NOT_CLOSED, 1, 0), (NOT_CLOSED, 2, 0)]))
+
+
 def sixty():
     """Sixty levels, where a run could walk each occurrence: what it leaves is what three levels leave."""
     for place, made in PLACES:
@@ -968,13 +987,16 @@ def sixty():
             found = run(short, WIDE, last, need(Reader(short), WIDE))
             assert len(found.reasons) < 7 and (place != 'top' or last < 3 or len(found.labels) == 3)
             add('sixty-%s-last-phase-%d' % (place, last), made(60), last=last, found=found)
-    # One RunDelta an occurrence: the log keeps the first, the total stops.
-    for levels, total in ((9, 512), (31, 2147483648), (60, 4294967295)):
-        found = run(body_deltas(3).bytes(), WIDE, 4, need(Reader(body_deltas(3).bytes()), WIDE))
-        assert found.reasons == [(RUN_DELTA, 1, 0)] * 8, found.reasons
-        for words in (0, 3, 7, 18):
-            add('deltas-%d-levels-log-%d' % (levels, words), body_deltas(levels),
-                room=Room(13, 15, words, 9), found=found._replace(reasons=Again((RUN_DELTA, 1, 0), total)))
+    # Reasons for each occurrence: the log keeps the first, the total stops. A log of 1,536 words takes 512 of them in.
+    for name, made, reasons in GIVEN_AGAIN:
+        short = made(3).bytes()
+        found = run(short, WIDE, 4, need(Reader(short), WIDE))
+        assert found.reasons == reasons * 8, found.reasons
+        for levels, logs in ((9, (0, 3, 7, 1536)), (31, (18,)), (60, (0, 18))):
+            total = min(len(reasons) << levels, 4294967295)
+            for words in logs:
+                add('%s-%d-levels-log-%d' % (name, levels, words), made(levels),
+                    room=Room(13, 15, words, 9), found=found._replace(reasons=Again(reasons, total)))
 
 
 def every_tag():
@@ -1100,7 +1122,7 @@ def main():
     given = b''.join(encoded(*asked) for *asked, _ in CASES)
     lines = [line for *_, found in CASES for line in found] + ['%d cases' % len(CASES)]
     wanted = ''.join(line + '\n' for line in lines).encode()
-    assert len(given) <= 300000, len(given)
+    assert len(given) <= 400000, len(given)
     finish('test_runs', given, wanted, '%d cases, %d bytes of data' % (len(CASES), len(given)))
 
 

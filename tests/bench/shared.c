@@ -87,6 +87,8 @@ int main(void) {
     start(), finish(last, concept(SOME, 2, doubled(first))), bad |= measure("a body's atoms, LabelNotClosed");
     start(), finish(last, concept(SOME, 4, doubled(first))), bad |= measure("a body's atoms, RunDelta");
     start(), finish(last, doubled(concept(SOME, 0, first))), bad |= measure("a consequent");
+    start(), finish(last, doubled(concept(SOME, 2, first))), bad |= measure("a consequent, LabelNotClosed");
+    start(), finish(last, doubled(concept(SOME, 4, first))), bad |= measure("a consequent, RunDelta");
     start();
     uint32_t some = concept(SOME, 0, first);
     for (int k = 0; k < LEVELS; k++) some = concept(SOME, 0, both(some, some));

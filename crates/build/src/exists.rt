@@ -118,7 +118,10 @@ impl Build<'_, '_> {
         requires concept_bound { concept.0 < concept_count (deck_in self.old) }
         ensures { Holds self.old self.new (is_err result) (spec.work (deck_in self.old) self.old.plan.floor.now self.old.plan.bounds concept.0 e.0 (model_of self.old)) }
     {
-        let mut memo: [Walked; N] = [Walked { word: 0, reasons: 0 }; N];
+        let mut memo: [Walked; N] = [Walked {
+            word: 0,
+            reasons: 0,
+        }; N];
         self.work_concept(&mut memo, concept, e)
     }
 

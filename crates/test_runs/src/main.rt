@@ -141,7 +141,7 @@ fn run_one(rt: &impl Print, data: &[u8], at: usize, room: &mut Lent) -> io::Resu
 }
 
 fn main(rt: HostRuntime) -> io::Result<()> {
-    let mut data: [u8; 300000] = blank(0);
+    let mut data: [u8; 400000] = blank(0);
     let n = read_full(&mut rt.stdin(), &mut data)?;
     let data = &data[..n];
     // A word of labels for one element more than a bound allows.

@@ -138,7 +138,13 @@ fn run(rng: &mut Rng, tally: &mut Tally, deck: &[u8], parts: &Parts, case: &Case
     room.labels += rng.below(4);
     room.edges += rng.below(3);
     room.verdicts += rng.below(6);
-    room.log = if rng.chance(15) { rng.below(8) } else { 3 * theirs.reasons.len() + rng.below(4) };
+    room.log = match rng.below(20) {
+        0..=2 => rng.below(8),
+        3..=5 => rng.below(3 * theirs.reasons.len() + 1),
+        _ => 3 * theirs.reasons.len() + rng.below(4),
+    };
+    tally.add("decks with", "more reasons than the log takes", u64::from(room.log / 3 < theirs.reasons.len()));
+    tally.add("decks with", "more than 256 reasons", u64::from(theirs.reasons.len() > 256));
     let mut lent = Lent::marked(room);
     same("refusal of a run", lent.run(deck, bounds, last), 0)?;
     let ours = lent.taken(parts)?;

@@ -113,7 +113,7 @@ fn shared(rng: &mut Rng, parts: &mut Parts, role: u32) -> (u32, &'static str) {
 /// An axiom or two that it stands in.
 fn place(rng: &mut Rng, parts: &mut Parts, role: u32, top: u32, over: &'static str) -> &'static str {
     let one = atom(rng, parts);
-    let (axiom, name) = match (rng.below(6), over) {
+    let (axiom, name) = match (rng.below(if over == "a Some" { 9 } else { 6 }), over) {
         (0 | 1, "Top") => {
             let some = push(parts, [8, 2 * role, one, 0]);
             let sup = rng.pick(&[one, some, some]);
