@@ -43,7 +43,7 @@ use Rattle.deck.specs.declared.numbers.ConceptId.{ConceptId}
 use Rattle.atoms.specs.Label.{label_has, insert_bit, insert_all}
 use Rattle.atoms.specs.Floor.{universal_of, universal, atoms_of, required_atoms}
 use Rattle.atoms.specs.Antecedent.{some_in, has_atom, holds_atoms}
-use Rattle.atoms.specs.Leaves.{leaves_of, leaves, IsLeaf, holds_atom, allows, answer_of, answer, every_leaf, pending, highest_mark, Same, Next}
+use Rattle.atoms.specs.Leaves.{leaves_of, leaves, IsLeaf, holds_atom, allows, answer_of, answer, every_leaf, pending, highest_mark, Same, Grown, Next}
 use Rattle.atoms.proofs.ListWalks.{flat-same, flat-flat}
 use Rattle.atoms.proofs.MemberLaws.{has-insert, or_assoc, none_has, by_cases}
 use Rattle.atoms.proofs.LabelLaws.{length-insert, length-insert-all}
@@ -495,14 +495,24 @@ module _ (D : Deck) where
   pending-none w zero = refl
   pending-none w (suc i) = rw (none_has w i) (pending-none w i)
 
-  -- ---- from one leaf to the next: what is marked below a number is not looked at yet
+  -- marks only grow
+  insert-all-grown : (marks : List ℕ) (ks : List ℕ) (i : ℕ) → i ≤ length marks * 64 → ((j : ℕ) → j < length ks → get_or ks j 0 < i) → Grown marks (insert_all marks ks)
+  unfolding insert_all
+  insert-all-grown marks [] i w b j h = h
+  insert-all-grown marks (k ∷ ks) i w b j h =
+      let f : k < i = b zero (omega arith) in
+      let one : label_has (insert_bit marks k) j ≡ true = has-insert marks k j (omega (arith, f, w)) ∙ ap (λ (z : Bool). z || eqb k j) h in
+      insert-all-grown (insert_bit marks k) ks i (rw (length-insert marks k) w) (λ j h. b (suc j) (omega (arith, h))) j one
+
+  -- ---- from one leaf to the next: each And is read as its number is passed, never again, as the walk goes down; what is marked below a number is not looked at yet
   pub record Walking (was : List ℕ) (i : ℕ) (marks : List ℕ) (below : ℕ) : Type 0 where
     pub wide : length marks ≡ length was
     pub down : below ≤ i
+    pub grown : Grown was marks
     pub same : Same (pending D was i) (pending D marks below)
 
   pub walking_start : (was : List ℕ) (i : ℕ) → Walking was i was i
-  walking_start was i = record { wide = refl; down = omega arith; same = λ x. refl }
+  walking_start was i = record { wide = refl; down = omega arith; grown = λ j h. h; same = λ x. refl }
 
   module _ {was : List ℕ} {i : ℕ} {marks : List ℕ} {below : ℕ} (G : Walking was i marks below) where
     at-mark : {o : Option ConceptId} → o ≡ highest_mark marks below → Same (pending D was i) (from_mark marks o)
@@ -517,6 +527,7 @@ module _ (D : Deck) where
       walking-next l q b w {marks'} m = record {
         wide = ap length m ∙ length-insert-all marks l ∙ G.wide;
         down = omega (arith, G.down, walking-down);
+        grown = λ j h. ap (λ (ys : List ℕ). label_has ys j) m ∙ insert-all-grown marks l k.0 w b j (G.grown j h);
         same = λ x.
             at-mark e x ∙ ap (λ (xs : List ℕ). has (xs ++ pending D marks k.0) x) (sym q)
             ∙ pending-marked marks l k.0 w b x ∙ ap (λ (ys : List ℕ). has (pending D ys k.0) x) (sym m);
@@ -528,12 +539,13 @@ module _ (D : Deck) where
         same = λ x. at-mark e x ∙ ap (λ (xs : List ℕ). has (xs ++ pending D marks k.0) x) (sym q);
         down = omega (arith, G.down, walking-down);
         leaf = f;
+        grown = G.grown;
         wide = G.wide;
       }
 
     -- at the end
     pub walking-end : None ≡ highest_mark marks below → Next D was i marks None
-    walking-end e = record { same = at-mark e; down = tt; leaf = tt; wide = G.wide }
+    walking-end e = record { same = at-mark e; down = tt; leaf = tt; grown = G.grown; wide = G.wide }
 
   -- a walk begins with all that the operands lead to
   pub begins : (w : ℕ) (l : List ℕ) (i : ℕ) → i ≤ w * 64 → ((j : ℕ) → j < length l → get_or l j 0 < i) → {was : List ℕ} → was ≡ insert_all (replicate w 0) l → Same (flat_map (leaves D) l) (pending D was i)

@@ -101,9 +101,14 @@ and_below D marks (Some k) = k.0 ∷ pending D marks k.0
 abbrev pub Same : List ℕ → List ℕ → Type 0
 Same xs ys = (x : ℕ) → has xs x ≡ has ys x
 
--- the next one of a walk that stood at i: nothing is lost, it is no And, and the walk goes down
+-- what is marked stays marked
+abbrev pub Grown : List ℕ → List ℕ → Type 0
+Grown was marks = (j : ℕ) → label_has was j ≡ true → label_has marks j ≡ true
+
+-- the next one of a walk that stood at i: nothing is lost, it is no And, the marks only grow, and the walk goes down, so that no list is read twice
 pub record Next (D : Deck) (was : List ℕ) (i : ℕ) (marks : List ℕ) (next : Option ConceptId) : Type 0 where
   pub same : Same (pending D was i) (and_below D marks next)
   pub down : IfSome next (λ k. k.0 < i)
   pub leaf : IfSome next (λ k. IsLeaf (concept_at D k.0))
+  pub grown : Grown was marks
   pub wide : length marks ≡ length was
