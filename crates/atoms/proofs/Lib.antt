@@ -8,6 +8,7 @@ pub mod WalkLaws
 pub mod TargetLaws
 pub mod BodyLaws
 pub mod OccurrenceLaws
+pub mod StandingLaws
 pub mod AntecedentLaws
 pub mod LeafLaws
 pub mod ShortLaws

@@ -65,7 +65,7 @@ module _ (f : ℕ → ℕ) (l : List ℕ) (i a : ℕ) where
   sum_step h q = rw (list-step 0 l i h) (omega (arith, q))
 
 -- ---- a log that is full
-counted_is : (t : ℕ) → t ≤ 4294967295 → counted t ≡ capped (t + 1)
+pub counted_is : (t : ℕ) → t ≤ 4294967295 → counted t ≡ capped (t + 1)
 unfolding counted
 counted_is t m = go (ltb t 4294967295) refl
   where

@@ -1,11 +1,12 @@
 -- The occurrences of a body's required atoms without walking each: how many RunDeltas they give, those in order, and the first atom of all.
-use Rattle.std.specs.Prelude.{ℕ, ◌+◌, ◌<◌, min, ◌≡◌, length, get_or}
+use Rattle.std.specs.Prelude.{ℕ, ◌+◌, ◌<◌, ◌≤◌, min, ◌≡◌, length, get_or}
 use mathlib.Core.List.{List, [], ◌∷◌, flat_map}
 use Rattle.deck.specs.Deck.{Deck}
 use Rattle.atoms.specs.declared.reasons.Reason.{Reason}
+use Rattle.atoms.specs.declared.reasons.Stretch.{Stretch}
 use Rattle.atoms.specs.Walk.{walk}
 use Rattle.atoms.specs.Floor.{required_atoms}
-use Rattle.atoms.specs.Reasons.{Log, note}
+use Rattle.atoms.specs.Reasons.{Log, note, Stand}
 use Rattle.atoms.specs.Body.{atom_delta}
 
 -- "stops at 4,294,967,295"
@@ -24,6 +25,14 @@ entry_at t k = get_or t k 0
 -- the log and the total of reasons
 abbrev pub logs : List ℕ → ℕ → Log
 logs words total = record { words = words; total = total }
+
+-- the reasons xs are those of a stretch of the log, before the `total` that were given; its count is theirs: "the total stops at 4,294,967,295"
+pub record Standing (words : List ℕ) (s : Stretch) (total : ℕ) (xs : List Reason) : Type 0 where
+  pub stand : Stand words s.first xs
+  pub since : s.first ≤ total
+  pub before : capped (s.first + length xs) ≤ total
+  pub counts : capped (total + s.count) ≡ capped (total + length xs)
+  pub most : total ≤ 4294967295
 
 module _ (D : Deck) (r : ℕ) where
   -- the RunDeltas of a concept's required atoms, one for each occurrence, in order

@@ -1,5 +1,5 @@
 -- Reasons: document 01, section 3, "Reasons are three words".
-use Rattle.std.specs.Prelude.{ℕ, zero, suc, ◌+◌, ◌*◌, ◌/◌, Bool, cond, ◌&&◌, List, [], ◌∷◌, length, get_or, set, ltb}
+use Rattle.std.specs.Prelude.{ℕ, zero, suc, ◌+◌, ◌*◌, ◌/◌, ◌≡◌, Bool, true, cond, ◌&&◌, List, [], ◌∷◌, length, get_or, set, ltb}
 use Rattle.deck.specs.declared.numbers.ClassId.{ClassId}
 use Rattle.deck.specs.declared.numbers.RoleId.{RoleId}
 use Rattle.atoms.specs.declared.reasons.Bound.{Bound}
@@ -48,8 +48,15 @@ words_of (BoundTripped bound limit) = 3 ∷ bound_number bound ∷ limit ∷ []
 words_of (AxiomsDropped dropped) = 4 ∷ dropped ∷ 0 ∷ []
 
 -- reason n of the log, in its three words
+abbrev pub reason_at : List ℕ → ℕ → List ℕ
+reason_at log n = get_or log (n * 3) 0 ∷ get_or log (n * 3 + 1) 0 ∷ get_or log (n * 3 + 2) 0 ∷ []
+
+-- the log after reason n became these words, and after it became r
+abbrev pub written : List ℕ → ℕ → List ℕ → List ℕ
+written log n w = set (set (set log (n * 3) (get_or w 0 0)) (n * 3 + 1) (get_or w 1 0)) (n * 3 + 2) (get_or w 2 0)
+
 abbrev pub logged : List ℕ → ℕ → Reason → List ℕ
-logged log n r = let w = words_of r in set (set (set log (n * 3) (get_or w 0 0)) (n * 3 + 1) (get_or w 1 0)) (n * 3 + 2) (get_or w 2 0)
+logged log n r = written log n (words_of r)
 
 -- would one more reason be written, where `total` were given?
 abbrev pub has_room : List ℕ → ℕ → Bool
@@ -70,3 +77,8 @@ pub record Log : Type 0 where
 
 abbrev pub note : Reason → Log → Log
 note x g = record { words = noted g.words g.total x; total = counted g.total }
+
+-- reasons that stand in the log from reason n on, as far as it takes them in
+unfoldable pub Stand : List ℕ → ℕ → List Reason → Type 0
+Stand log n [] = Unit {0}
+Stand log n (x ∷ xs) = (has_room log n ≡ true → reason_at log n ≡ words_of x) × Stand log (n + 1) xs

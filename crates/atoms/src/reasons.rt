@@ -1,6 +1,9 @@
 // The log of reasons: three words a reason.
-ghost use Rattle.std.specs.Prelude.{◌≡◌, ◌/◌, ◌<◌, length};
-ghost use Rattle.atoms.specs.Reasons.{bound_number, label_not_closed, run_delta, bound_tripped, axioms_dropped, words_of, logged, has_room, noted, counted};
+ghost use Rattle.std.specs.Prelude.{◌≡◌, ◌/◌, ◌<◌, ◌≤◌, List, length};
+ghost use Rattle.atoms.specs.declared.reasons.Reason.{Reason};
+ghost use Rattle.atoms.specs.Walk.{walk};
+ghost use Rattle.atoms.specs.Reasons.{bound_number, label_not_closed, run_delta, bound_tripped, axioms_dropped, words_of, reason_at, written, has_room, noted, counted, note};
+ghost use Rattle.atoms.specs.Occurrences.{logs, Standing};
 
 use deck::numbers::{ClassId, RoleId};
 
@@ -60,12 +63,19 @@ impl Reason {
     }
 }
 
-// Reason n of the log becomes r.
-fn store(log: &mut [u32], n: usize, r: Reason)
-    requires { n < length log.old / 3 }
-    ensures { log.new ≡ logged log.old n r }
+// Reason n of the log.
+fn at(log: &[u32], n: usize) -> [u32; 3]
+    requires { n < length log.now / 3 }
+    ensures { result ≡ reason_at log.now n }
 {
-    let words = r.words();
+    [log[n * 3], log[n * 3 + 1], log[n * 3 + 2]]
+}
+
+// Reason n of the log becomes these words.
+fn store(log: &mut [u32], n: usize, words: [u32; 3])
+    requires { n < length log.old / 3 }
+    ensures { log.new ≡ written log.old n words }
+{
     log[n * 3] = words[0];
     log[n * 3 + 1] = words[1];
     log[n * 3 + 2] = words[2];
@@ -83,7 +93,29 @@ pub fn note(log: &mut [u32], total: u32, r: Reason) -> u32
     ensures { (log.new ≡ noted log.old total r) × (result ≡ counted total) }
 {
     if has_room(log, total) {
-        store(log, total as usize, r);
+        store(log, total as usize, r.words());
     }
     total.saturating_add(1)
+}
+
+// Reasons that stand in the log: the number of the first, and how many.
+#[derive(Clone, Copy)]
+pub struct Stretch {
+    pub first: u32,
+    pub count: u32,
+}
+
+// The reasons of a stretch once more, where `total` were given; the new total.
+pub fn note_again(log: &mut [u32], total: u32, stretch: Stretch) -> u32
+    requires { stretch.first ≤ total }
+    ensures { (xs : List Reason) → Standing log.old stretch total xs → logs log.new result ≡ walk note xs (logs log.old total) }
+{
+    for j in 0..stretch.count {
+        if !has_room(log, total + j) {
+            break;
+        }
+        let words = at(log, (stretch.first + j) as usize);
+        store(log, (total + j) as usize, words);
+    }
+    total.saturating_add(stretch.count)
 }

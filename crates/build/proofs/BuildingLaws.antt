@@ -1,7 +1,7 @@
 -- Steps of a structure in the making, one after the other.
 --     same-refl, same-trans         what is only read, and the slices
 --     pushed-same, pushed-trans     steps that add edges alone
---     holds-same, holds-counted, holds-trans, holds-is, holds-pushed, holds-start, ready-at, ready-after    steps that build
+--     holds-same, holds-noted, holds-trans, holds-is, holds-pushed, holds-start, ready-at, ready-after    steps that build
 --     Walking                       every loop that walks a list
 use mathlib.Core.Bool.{Bool, true, false}
 use mathlib.Core.Path.{◌≡◌, refl, ◌∙◌}
@@ -11,8 +11,10 @@ use Rattle.build.specs.declared.building.Build.{Build}
 use Rattle.atoms.specs.Walk.{walk}
 use Rattle.build.specs.Push.{State}
 use Prim.Native.Nat.{ℕ}
+use lib.ListN.{length}
+use denote.Ref.{MutBor}
 use native.Mathlib.Omega.{arith}
-use Rattle.build.specs.Model.{Model, with_state, begun, Built}
+use Rattle.build.specs.Model.{Model, with_state, lent, begun, Built}
 use Rattle.build.specs.Again.{of_total}
 use Rattle.build.specs.Building.{deck_in, buffers, step_to, model_of, model_by, state_of, HasRoom, Ready, Same, Pushed, Holds}
 use Rattle.build.proofs.PushLaws.{left-same, left-trans}
@@ -41,9 +43,10 @@ pushed-trans P Q = record { same = same-trans P.same Q.same; label = Q.label ∙
 pub holds-same : {b : Build} → Ready b → Holds b b false (model_of b)
 holds-same P = record { same = same-refl; built = built-same P }
 
--- reasons that are counted alone
-pub holds-counted : {a : Build} (n : ℕ) → Ready a → Holds a (record { plan = a.plan; label = a.label; labels = a.labels; edges = a.edges; log = a.log; tally = of_total n a.tally }) false (begun (deck_in a) (buffers a) (of_total n a.tally))
-holds-counted {a} n P = record { same = record { plan = refl; label = refl; labels = refl; edges = refl; log = refl }; built = built-log P a.log.now refl n P.label-wide }
+-- reasons alone
+pub holds-noted : {a : Build} {g : MutBor (List ℕ)} (n : ℕ) → Ready a → g.ghost_name ≡ a.log.ghost_name → length g.now ≡ length a.log.now
+    → Holds a (record { plan = a.plan; label = a.label; labels = a.labels; edges = a.edges; log = g; tally = of_total n a.tally }) false (begun (deck_in a) (lent a.labels.now a.edges.now g.now) (of_total n a.tally))
+holds-noted {a} {g} n P same size = record { same = record { plan = refl; label = refl; labels = refl; edges = refl; log = same }; built = built-log P g.now size n P.label-wide }
 
 pub holds-is : {a b : Build} {r : Bool} {m k : Model} → Holds a b r m → m ≡ k → Holds a b r k
 holds-is H e = rw e at H

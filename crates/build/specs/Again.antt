@@ -1,13 +1,14 @@
--- Walks that were made before. A walk of a concept from an element that leaves elements and edges as they were gives the same reasons each time, until the structure has grown: a table remembers how many.
-use Rattle.std.specs.Prelude.{ℕ, ◌+◌, ◌-◌, ◌*◌, ◌≤◌, ◌<◌, false, List, ◌⊎◌, ◌≡◌, length, get_or}
+-- Walks that were made before. A walk of a concept from an element that leaves elements and edges as they were gives the same reasons each time, until the structure has grown: a table remembers where they stand in the log.
+use Rattle.std.specs.Prelude.{ℕ, ◌+◌, ◌-◌, ◌*◌, ◌<◌, false, List, ◌⊎◌, ◌≡◌, length, get_or}
 use Rattle.deck.specs.Deck.{Deck}
 use Rattle.build.specs.declared.again.Walked.{Walked}
 use Rattle.build.specs.declared.bounds.Bounds.{Bounds}
 use Rattle.build.specs.declared.tally.Tally.{Tally}
 use Rattle.atoms.specs.declared.reasons.Reason.{Reason}
 use Rattle.atoms.specs.Walk.{walk}
-use Rattle.atoms.specs.Reasons.{Log, note, has_room}
-use Rattle.atoms.specs.Occurrences.{capped}
+use Rattle.atoms.specs.declared.reasons.Stretch.{Stretch}
+use Rattle.atoms.specs.Reasons.{Log, note}
+use Rattle.atoms.specs.Occurrences.{Standing}
 use Rattle.build.specs.Model.{Model, with_state}
 use Rattle.build.specs.Exists.{work, builds_at}
 
@@ -38,18 +39,14 @@ pub record Given (f : Model → Model) (m : Model) : Type 0 where
   pub reasons : List Reason
   pub is : (g : Log) → f (with_log m g) ≡ with_log m (walk note reasons g)
 
--- a total that is not below m's grows by n where it grows by all of xs: "the total stops at 4,294,967,295"
-abbrev pub Counts : Model → List Reason → ℕ → Type 0
-Counts m xs n = (total : ℕ) → m.state.reasons ≤ total → capped (total + n) ≡ capped (total + length xs)
-
 -- the tally with another total of reasons
 abbrev pub of_total : ℕ → Tally → Tally
 of_total n t = record { elements = t.elements; edges = t.edges; reasons = n }
 
--- the walk of concept o from element e gives reasons alone, and n counts them
-pub record Remembers (D : Deck) (floor : List ℕ) (B : Bounds) (m : Model) (o e n : ℕ) : Type 0 where
+-- the walk of concept o from element e gives reasons alone, those of a stretch of m's log
+pub record Remembers (D : Deck) (floor : List ℕ) (B : Bounds) (m : Model) (o e : ℕ) (s : Stretch) : Type 0 where
   pub given : Given (work D floor B o e) m
-  pub counts : Counts m given.reasons n
+  pub standing : Standing m.state.log s m.state.reasons given.reasons
 
 -- ---- the table
 -- the word of concept o at element e in a structure of size n; never 0
@@ -61,26 +58,29 @@ pub record Worded (o e : ℕ) : Type 0 where
   pub concept : o < 16384
   pub element : e < 65536
 
+abbrev pub no_stretch : Stretch
+no_stretch = record { first = 0; count = 0 }
+
 abbrev pub none : Walked
-none = record { word = 0; reasons = 0 }
+none = record { word = 0; given = no_stretch }
 
 abbrev pub walked_at : List Walked → ℕ → Walked
 walked_at table i = get_or table i none
 
--- its walk stands in the table, at any place, with n reasons
-pub record Known (table : List Walked) (t : Tally) (o e n : ℕ) : Type 0 where
+-- its walk stands in the table, at any place, with the reasons that it gave
+pub record Known (table : List Walked) (t : Tally) (o e : ℕ) (s : Stretch) : Type 0 where
   pub worded : Worded o e
   pub place : ℕ
   pub word : (walked_at table place).word ≡ word_of (size_of t) o e
-  pub reasons : (walked_at table place).reasons ≡ n
+  pub given : (walked_at table place).given ≡ s
 
--- a walk that need not be made, as it gives n more reasons and these are not written: by the form of its concept, or by the table
-abbrev pub Skipped : Deck → List Walked → List ℕ → Tally → ℕ → ℕ → ℕ → Type 0
-Skipped D table log t o e n = ((builds_at D o ≡ false) × (n ≡ 0)) ⊎ (Known table t o e n × ((n ≡ 0) ⊎ (has_room log t.reasons ≡ false)))
+-- a walk that need not be made, as what it gives is known: by the form of its concept, or by the table
+abbrev pub Skipped : Deck → List Walked → Tally → ℕ → ℕ → Stretch → Type 0
+Skipped D table t o e s = ((builds_at D o ≡ false) × (s ≡ no_stretch)) ⊎ Known table t o e s
 
 -- every walk whose word stands in the table gives in m what the table says, and no word is of a larger structure
 pub record Right (D : Deck) (floor : List ℕ) (B : Bounds) (table : List Walked) (m : Model) : Type 0 where
-  pub again : (i o e : ℕ) → o < 16384 → e < 65536 → LiveModel m → (walked_at table i).word ≡ word_of (structure_size m) o e → Remembers D floor B m o e (walked_at table i).reasons
+  pub again : (i o e : ℕ) → o < 16384 → e < 65536 → LiveModel m → (walked_at table i).word ≡ word_of (structure_size m) o e → Remembers D floor B m o e (walked_at table i).given
   pub old : (i : ℕ) → (walked_at table i).word < (structure_size m + 2) * 1073741824
 
 -- ---- a walk of concept o from element e took the tally from t to u: each entry of the table is as it was, or, where elements and edges stand, that of the walk
@@ -89,7 +89,8 @@ pub record Marked (table : List Walked) (i : ℕ) (t u : Tally) (o e : ℕ) : Ty
   pub edges : t.edges ≡ u.edges
   pub worded : Worded o e
   pub word : (walked_at table i).word ≡ word_of (size_of u) o e
-  pub reasons : (walked_at table i).reasons ≡ u.reasons - t.reasons
+  pub first : (walked_at table i).given.first ≡ t.reasons
+  pub count : (walked_at table i).given.count ≡ u.reasons - t.reasons
 
 pub record Kept (was now : List Walked) (t u : Tally) (o e : ℕ) : Type 0 where
   pub each : (i : ℕ) → (walked_at now i ≡ walked_at was i) ⊎ Marked now i t u o e

@@ -1,16 +1,17 @@
-// Walks of a concept from an element that left elements and edges as they were, remembered in a lent table until the structure has grown: made again, each gives as many reasons as before. A table of fewer than 16,384 walks remembers none; an `Option` of a table is no plainer, as a loop would have to lend out what it holds anew for each call.
+// Walks of a concept from an element that left elements and edges as they were, remembered in a lent table until the structure has grown: made again, each would give the reasons that it gave. A table of fewer than 16,384 walks remembers none; an `Option` of a table is no plainer, as a loop would have to lend out what it holds anew for each call.
 // The tally goes beside the table, as it is the build's.
 ghost use Rattle.std.specs.Prelude.{◌≡◌, true, ◌<◌, ◌≤◌, IfSome};
 ghost use Rattle.build.specs.Again.{size_of, word_of, Worded, Known, Kept};
 
 use crate::tally::Tally;
+use atoms::reasons::Stretch;
 use deck::numbers::{ConceptId, Element};
 
-// A walk, by its word, and how many reasons it gave. The word of none is 0.
+// A walk, by its word, and the reasons that it gave. The word of none is 0.
 #[derive(Clone, Copy)]
 pub struct Walked {
     pub word: u64,
-    pub reasons: u32,
+    pub given: Stretch,
 }
 
 // Is there a word for concept o at element e?
@@ -37,9 +38,9 @@ fn place(o: ConceptId, e: Element) -> usize
     ((e.0 * 10125 + o.0) % 16384) as usize
 }
 
-// How many reasons the walk of concept o from element e gives while the tally is t, where the table has it.
-pub fn reasons_again(memo: &[Walked], t: Tally, o: ConceptId, e: Element) -> Option<u32>
-    ensures { IfSome result (λ n. Known memo.now t o.0 e.0 n) }
+// The reasons that the walk of concept o from element e gives while the tally is t, where the table has it.
+pub fn given_again(memo: &[Walked], t: Tally, o: ConceptId, e: Element) -> Option<Stretch>
+    ensures { IfSome result (λ s. Known memo.now t o.0 e.0 s) }
 {
     if memo.len() < 16384 || !has_word(o, e) {
         return None;
@@ -48,7 +49,7 @@ pub fn reasons_again(memo: &[Walked], t: Tally, o: ConceptId, e: Element) -> Opt
     if known.word != word(t, o, e) {
         return None;
     }
-    Some(known.reasons)
+    Some(known.given)
 }
 
 // Remembers the walk of concept o from element e, which took the tally from t to u, where it left elements and edges as they were.
@@ -62,8 +63,12 @@ pub fn remember(memo: &mut [Walked], t: Tally, u: Tally, o: ConceptId, e: Elemen
     if t.elements != u.elements || t.edges != u.edges {
         return;
     }
+    let given = Stretch {
+        first: t.reasons,
+        count: u.reasons - t.reasons,
+    };
     memo[place(o, e)] = Walked {
         word: word(u, o, e),
-        reasons: u.reasons - t.reasons,
+        given,
     };
 }

@@ -11,6 +11,7 @@ ghost use Rattle.build.specs.Again.{Right};
 use crate::again::{Walked, remember};
 use crate::building::{Build, Tripped};
 use atoms::body::body_label_known;
+use atoms::reasons::{Stretch, note_again};
 use atoms::visits::is_short;
 use deck::concepts::ConceptExpr;
 use deck::numbers::{ConceptId, Element, RoleId};
@@ -80,7 +81,7 @@ impl Build<'_, '_> {
         }
     }
 
-    // The same of each concept of the list, all below `owner`, but for those that are passed over: what these give is counted.
+    // The same of each concept of the list, all below `owner`, but for walks that need not be made: what these give is noted.
     #[cycle(work_concept_work_operands)]
     fn work_operands(
         &mut self,
@@ -100,8 +101,8 @@ impl Build<'_, '_> {
         for i in 0..list.count {
             let o = ConceptId(deck.item(list, i));
             let held = self.tally;
-            if let Some(n) = self.passed_over(memo, o, e) {
-                self.tally.reasons = held.reasons.saturating_add(n);
+            if let Some(given) = self.known_to_give(memo, o, e) {
+                self.tally.reasons = note_again(self.log, held.reasons, given);
                 continue;
             }
             self.work_concept(memo, o, e)?;
@@ -118,14 +119,15 @@ impl Build<'_, '_> {
         requires concept_bound { concept.0 < concept_count (deck_in self.old) }
         ensures { Holds self.old self.new (is_err result) (spec.work (deck_in self.old) self.old.plan.floor.now self.old.plan.bounds concept.0 e.0 (model_of self.old)) }
     {
-        let mut memo: [Walked; N] = [Walked {
+        let none = Walked {
             word: 0,
-            reasons: 0,
-        }; N];
+            given: Stretch { first: 0, count: 0 },
+        };
+        let mut memo: [Walked; N] = [none; N];
         self.work_concept(&mut memo, concept, e)
     }
 
-    // Every Some of the concept that an And or a Some leads to, from element e on. Where that walk is not short, by the sizes of the first concepts, no walk that leaves elements and edges as they were is made twice where its reasons would not be written.
+    // Every Some of the concept that an And or a Some leads to, from element e on. Where that walk is not short, by the sizes of the first concepts, no walk that leaves elements and edges as they were is made twice.
     pub fn materialise_exists(
         &mut self,
         sizes: &[u8],

@@ -1,4 +1,4 @@
-// Consequents whose walk is passed over: by their form, or as the table of walks tells.
+// Consequents whose walk need not be made: by their form, or as the table of walks tells.
 ghost use Rattle.std.specs.Prelude.{◌≡◌, ◌<◌, ◌≤◌, IfSome};
 ghost use Rattle.deck.specs.Content.{deck_of};
 ghost use Rattle.deck.specs.Deck.{concept_count};
@@ -6,9 +6,9 @@ ghost use Rattle.build.specs.Exists.{builds_at};
 ghost use Rattle.build.specs.Building.{deck_in};
 ghost use Rattle.build.specs.Again.{Skipped};
 
-use crate::again::{Walked, reasons_again};
+use crate::again::{Walked, given_again};
 use crate::building::Build;
-use atoms::reasons::has_room;
+use atoms::reasons::Stretch;
 use deck::Deck;
 use deck::concepts::ConceptExpr;
 use deck::numbers::{ConceptId, Element};
@@ -27,21 +27,18 @@ pub fn goes_on(deck: &Deck, concept: ConceptId) -> bool
 }
 
 impl Build<'_, '_> {
-    // Where the walk of concept o from element e is passed over, how many reasons it gives: none where it adds nothing, and those that the table has where the log takes no more of them in.
-    pub fn passed_over(&self, memo: &[Walked], o: ConceptId, e: Element) -> Option<u32>
+    // The reasons that the walk of concept o from element e gives, where it need not be made: none where the concept goes no further, and those that the table has.
+    pub fn known_to_give(&self, memo: &[Walked], o: ConceptId, e: Element) -> Option<Stretch>
         requires concept_bound { o.0 < concept_count (deck_in self.now) }
-        ensures skipped { IfSome result (λ n. Skipped (deck_in self.now) memo.now self.now.log.now self.now.tally o.0 e.0 n) }
+        ensures skipped { IfSome result (λ s. Skipped (deck_in self.now) memo.now self.now.tally o.0 e.0 s) }
         ensures total { self.now.tally.reasons ≤ 4294967295 }
     {
-        let total = self.tally.reasons;
+        // Read first, so that `total` is known whatever is answered.
+        let _total = self.tally.reasons;
         let deck = self.plan.deck;
         if !goes_on(&deck, o) {
-            return Some(0);
+            return Some(Stretch { first: 0, count: 0 });
         }
-        let n = reasons_again(memo, self.tally, o, e)?;
-        if n == 0 || !has_room(self.log, total) {
-            return Some(n);
-        }
-        None
+        given_again(memo, self.tally, o, e)
     }
 }

@@ -1,9 +1,9 @@
 use Rattle.std.proofs.Common.{refl, sym, ◌∙◌, ◌≤◌, length, arith}
 use Rattle.std.proofs.lemmas.Result.{err_from_is_err_and}
 use borrow.Enum.Refused.{opened}
-use Rattle.build.proofs.BuildingLaws.{same-refl, same-trans, holds-counted, holds-is, ready-at, walking-start, walking-ready, walking-next, walking-stop, walking-done}
-use Rattle.build.proofs.AgainLaws.{right-reached, right-passed, more-reasons, right-kept}
-use Rattle.build.proofs.IdleLaws.{skipped-is}
+use Rattle.build.proofs.BuildingLaws.{same-refl, same-trans, holds-noted, holds-is, ready-at, walking-start, walking-ready, walking-next, walking-stop, walking-done}
+use Rattle.build.proofs.AgainLaws.{gives-now, right-reached, right-passed, more-reasons, right-kept}
+use Rattle.build.proofs.IdleLaws.{known-in}
 use Rattle.build.proofs.ExistsLaws.{work-stuck, and-leaves, inverse-leaves, some-stops, some-goes, other-leaves, descending-start, descending-next, descending-ends}
 use Rattle.build.proofs.BuildLaws.{prepared-after}
 use Rattle.build.specs.Building.{buffers}
@@ -70,6 +70,11 @@ pub work_operands-loop-i-init : goal.work_operands-loop-i-init
 work_operands-loop-i-init t c =
     (refl, walking-start _ _ c.requires.ready, c.requires.right)
 
+pub work_operands-note_again-self-requires : goal.work_operands-note_again-self-requires
+work_operands-note_again-self-requires t c =
+    let G = c.loop-i.invariant in
+    (known-in G.1.same (walking-ready G.1 c.requires.ready) G.2 c.known_to_give.ensures.total c.in-Some.ensures.skipped).standing.since
+
 pub work_operands-loop-i-preserved-in-Some : goal.work_operands-loop-i-preserved-in-Some
 work_operands-loop-i-preserved-in-Some t c =
     let G = c.loop-i.invariant in
@@ -78,15 +83,16 @@ work_operands-loop-i-preserved-in-Some t c =
     let s = c.args.self.now.plan.deck.bytes.now in
     let P = walking-ready G.1 c.requires.ready in
     let q = operand (list_of s l) c.loop-i.i (omega (arith, list_length s l.start l.count)) c.item.ensures in
-    let e = skipped-is (buffers c.loop-i.self) (rw Z G.2) (omega (arith, P.space.bound, P.space.room)) c.passed_over.ensures.total c.in-Some.ensures.skipped c.saturating_add-self.ensures in
-    (G.0, walking-next G.1 q (holds-is (holds-counted c.saturating_add-self.result P) e) refl, right-passed _ _ G.2 (rw Z at e))
+    let R = known-in G.1.same P G.2 c.known_to_give.ensures.total c.in-Some.ensures.skipped in
+    let e = gives-now (buffers c.loop-i.self) c.loop-i.self.tally R (c.note_again-self.ensures R.given.reasons R.standing) in
+    (G.0, walking-next G.1 q (holds-is (holds-noted c.note_again-self.result P refl c.note_again-self.auto.log) (rw Z e)) refl, right-passed _ _ G.2 e)
 
 pub work_operands-remember-requires : goal.work_operands-remember-requires
 work_operands-remember-requires t c =
     let G = c.loop-i.invariant in
     let Z = G.1.same.plan in
     let X = c.in_ok-work_concept.ensures in
-    more-reasons (prepared-after c.requires.ready G.1.on.built refl) c.passed_over.ensures.total _ _ (rw Z at X.holds.built) refl
+    more-reasons (prepared-after c.requires.ready G.1.on.built refl) c.known_to_give.ensures.total _ _ (rw Z at X.holds.built) refl
 
 pub work_operands-work_concept-requires : goal.work_operands-work_concept-requires
 work_operands-work_concept-requires t c =
@@ -112,7 +118,7 @@ work_operands-loop-i-preserved t c =
     let s = c.args.self.now.plan.deck.bytes.now in
     let X = c.in_ok-work_concept.ensures in
     let q = operand (list_of s l) c.loop-i.i (omega (arith, list_length s l.start l.count)) c.item.ensures in
-    (c.remember.auto.memo ∙ c.work_concept.auto.memo ∙ G.0, walking-next G.1 q X.holds refl, right-kept (prepared-after c.requires.ready G.1.on.built refl) c.passed_over.ensures.total _ _ (rw Z at X.holds.built) refl (rw Z at X.known) c.remember.ensures)
+    (c.remember.auto.memo ∙ c.work_concept.auto.memo ∙ G.0, walking-next G.1 q X.holds refl, right-kept (prepared-after c.requires.ready G.1.on.built refl) c.known_to_give.ensures.total _ _ (rw Z at X.holds.built) refl (rw Z at X.known) c.remember.ensures)
 
 pub work_operands-returns-clause-holds : goal.work_operands-returns-clause-holds
 work_operands-returns-clause-holds t c =
