@@ -3,7 +3,7 @@
 --     stand-own                 what was noted stands where the total was
 --     standing-own, standing-walk, standing-none    a stretch of the log
 --     Copied                    the loop that notes one once more
-use Prim.Native.Nat.{ℕ, ◌+◌, ◌-◌, ◌*◌, ◌/◌, ◌<◌, ◌≤◌}
+use Prim.Native.Nat.{ℕ, ◌+◌, ◌*◌, ◌/◌, ◌<◌, ◌≤◌}
 use mathlib.Core.Bool.{Bool, true, false, cond, ◌&&◌}
 use mathlib.Core.Path.{◌≡◌, refl, sym, ap, subst, ◌∙◌}
 use mathlib.Core.Logic.{⊎_elim}
@@ -11,17 +11,19 @@ use native.Mathlib.Nat.{add-zero}
 use Rattle.deck.proofs.CaseLaws.{lt-or-le}
 use mathlib.Core.List.{List, [], ◌∷◌}
 use native.Mathlib.Omega.{arith}
-use borrow.Author.Tests.{lt-ltb, ltb-true}
-use lib.Dec.{ltb}
-use lib.ListN.{length, get_or, set, drop, length-drop, length-set, drop_of_length-le}
+use borrow.Author.Tests.{lt-ltb, ltb-true, eqb-true, eqb-false}
+use lib.Dec.{eqb, ltb}
+use Rattle.std.proofs.lemmas.List.{get_or-replicate, get_or_past}
+use lib.ListN.{length, get_or, set, replicate, length-replicate, drop, length-drop, length-set, drop_of_length-le}
 use lib.Seq.{get_or-set_same, get_or-set_other}
+use Rattle.deck.specs.Deck.{Deck}
 use Rattle.eval.proofs.Clash.{both_true}
 use Rattle.eval.proofs.Walks.{list-step}
 use Rattle.atoms.specs.declared.reasons.Reason.{Reason}
 use Rattle.atoms.specs.declared.reasons.Stretch.{Stretch}
 use Rattle.atoms.specs.Walk.{walk}
 use Rattle.atoms.specs.Reasons.{words_of, reason_at, written, logged, has_room, noted, counted, Log, note, run_delta, Stand}
-use Rattle.atoms.specs.Occurrences.{capped, logs, Standing}
+use Rattle.atoms.specs.Occurrences.{capped, entry_at, logs, deltas_of, delta_count, noted_deltas, Standing, Places}
 use Rattle.atoms.proofs.OccurrenceLaws.{counted_is, walk-total, full-walk}
 
 -- ---- room
@@ -134,8 +136,8 @@ stand-own (x ∷ xs) g m =
     )
 
 -- ---- a stretch of the log
--- what was noted is one
-pub standing-own : (xs : List Reason) (g : Log) → g.total ≤ 4294967295 → {s : Stretch} → s.first ≡ g.total → s.count ≡ (walk note xs g).total - g.total → Standing (walk note xs g).words s (walk note xs g).total xs
+-- what was noted is one, by any count that the total takes for theirs
+pub standing-own : (xs : List Reason) (g : Log) → g.total ≤ 4294967295 → {s : Stretch} → s.first ≡ g.total → capped (g.total + s.count) ≡ capped (g.total + length xs) → Standing (walk note xs g).words s (walk note xs g).total xs
 standing-own xs g m {s} f c =
     let t = walk-total xs g m in
     record {
@@ -245,3 +247,40 @@ module _ {was : List ℕ} {t : Stretch} {total : ℕ} {xs : List Reason} (S : St
             stand = rest-stands (ap (λ (k : Log). k.words) g);
             goes = ap (walk note (drop (j + 1) xs)) (sym g) ∙ ap (λ (ys : List Reason). walk note ys (logs log (total + j))) (sym left-is) ∙ C.goes;
           }
+
+-- ---- a table of places
+-- a list of one value has it everywhere, past its end too
+pub replicate-at : {A : Type 0} (n i : ℕ) (a : A) → get_or (replicate n a) i a ≡ a
+replicate-at {A} n i a = ⊎_elim (λ (h : i < n). get_or-replicate n i a a h) (λ (h : n ≤ i). get_or_past (replicate n a) i a (omega (arith, h, length-replicate {A = A} n a))) (lt-or-le i n)
+
+module _ (D : Deck) (r : ℕ) where
+  pub places-none : (words : List ℕ) (total w : ℕ) → Places D r (replicate w 0) words total
+  places-none words total w k p e = absurd (omega (arith, e, replicate-at {A = ℕ} w k 0))
+
+  pub placed : (places words : List ℕ) (total : ℕ) → Places D r places words total → (c p : ℕ) → entry_at places c ≡ p + 1 → {n : ℕ} → n ≡ delta_count D r c → Standing words (record { first = p; count = n }) total (deltas_of D r c)
+  placed places words total P c p e q = rw q (P c p e)
+
+  -- a concept's RunDeltas, from where they stand
+  pub noted-again : (c : ℕ) (words : List ℕ) (total : ℕ) {words' : List ℕ} {total' : ℕ} → logs words' total' ≡ walk note (deltas_of D r c) (logs words total) → logs words' total' ≡ noted_deltas D r c (logs words total)
+  unfolding noted_deltas
+  noted-again c words total q = q
+
+  module _ (places words : List ℕ) (total c : ℕ) {words' : List ℕ} {total' : ℕ} (q : logs words' total' ≡ noted_deltas D r c (logs words total)) where
+    -- after those of concept c
+    pub places-noted : Places D r places words total → Places D r places words' total'
+    unfolding noted_deltas
+    places-noted P k p e =
+        subst (λ (g : Log). Standing g.words (record { first = p; count = delta_count D r k }) g.total (deltas_of D r k)) (sym q) (standing-walk (deltas_of D r c) (logs words total) (P k p e))
+
+    -- and with their place
+    pub places-put : total ≤ 4294967295 → c < length places → Places D r places words' total' → Places D r (set places c (total + 1)) words' total'
+    unfolding noted_deltas
+    places-put m h P k p e = go (eqb k c) refl
+      where
+        go : (b : Bool) → eqb k c ≡ b → Standing words' (record { first = p; count = delta_count D r k }) total' (deltas_of D r k)
+        go false d = P k p (sym (get_or-set_other places c k (total + 1) 0 (eqb-false k c d)) ∙ e)
+        go true d =
+            let s : k ≡ c = eqb-true k c d in
+            let f : p ≡ total = omega (arith, e, ap (entry_at (set places c (total + 1))) s, get_or-set_same places c (total + 1) 0 h) in
+            let S = standing-own (deltas_of D r k) (logs words total) m {s = record { first = p; count = delta_count D r k }} f (omega arith) in
+            subst (λ (g : Log). Standing g.words (record { first = p; count = delta_count D r k }) g.total (deltas_of D r k)) (sym (q ∙ ap (λ (c : ℕ). walk note (deltas_of D r c) (logs words total)) (sym s))) S

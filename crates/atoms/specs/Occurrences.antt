@@ -51,6 +51,10 @@ module _ (D : Deck) (r : ℕ) where
   abbrev pub DeltasTo : List ℕ → ℕ → Type 0
   DeltasTo t n = (k : ℕ) → k < n → entry_at t k ≡ delta_count k
 
+-- a table of where the RunDeltas of concepts stand in the log: one more than the number of the first; 0 is nowhere
+abbrev pub Places : Deck → ℕ → List ℕ → List ℕ → ℕ → Type 0
+Places D r places words total = (k p : ℕ) → entry_at places k ≡ p + 1 → Standing words (record { first = p; count = delta_count D r k }) total (deltas_of D r k)
+
 -- x is the first of a list of classes, or 4,294,967,295 for none
 abbrev pub IsFirst : List ℕ → ℕ → Type 0
 IsFirst [] x = x ≡ 4294967295

@@ -97,7 +97,8 @@ fn note_counted(
         return total;
     }
     fill_deltas(deck, r, table, concept.0 + 1);
-    note_deltas(deck, r, concept, table, log, total)
+    let mut places: [u32; 16384] = [0; 16384];
+    note_deltas(deck, r, concept, table, &mut places, log, total)
 }
 
 // LabelNotClosed of a concept's first required atom and r, where it has one; the new total.

@@ -8,10 +8,10 @@ ghost use Rattle.deck.specs.Reads.{list_of, ListFits};
 ghost use Rattle.atoms.specs.Walk.{walk};
 ghost use Rattle.atoms.specs.Floor.{required_atoms};
 ghost use Rattle.atoms.specs.Body.{atom_delta};
-ghost use Rattle.atoms.specs.Occurrences.{capped, sum_of, entry_at, logs, delta_count, noted_deltas, DeltasTo, IsFirst, FirstsTo};
+ghost use Rattle.atoms.specs.Occurrences.{capped, sum_of, entry_at, logs, delta_count, noted_deltas, DeltasTo, Places, IsFirst, FirstsTo};
 
 use crate::lists::operand;
-use crate::reasons::{Reason, has_room, note};
+use crate::reasons::{Reason, Stretch, has_room, note, note_again};
 use crate::target_label::{Target, target_label};
 use deck::Deck;
 use deck::concepts::ConceptExpr;
@@ -74,57 +74,100 @@ pub fn fill_deltas(deck: &Deck, r: RoleId, table: &mut [u32], count: u32)
     }
 }
 
-// The RunDeltas of a concept's required atoms, in order; the new total. Without room for one more only the count is taken.
-#[cycle(note_deltas_note_operands)]
+// The RunDeltas of a concept's required atoms, in order; the new total. Those that stand in the log already are noted once more; without room for one only the count is taken.
+#[cycle(note_deltas_note_first_note_operands)]
 pub fn note_deltas(
     deck: &Deck,
     r: RoleId,
     concept: ConceptId,
     table: &[u32],
+    places: &mut [u32],
     log: &mut [u32],
     total: u32,
 ) -> u32
     requires concept_bound { concept.0 < concept_count (content deck.now) }
-    requires concept_in_bounds { concept.0 < length table.now }
+    requires concept_in_bounds { (concept.0 < length table.now) × (concept.0 < length places.old) }
     requires deltas_to { DeltasTo (content deck.now) r.0 table.now (concept.0 + 1) }
-    ensures { logs log.new result ≡ noted_deltas (content deck.now) r.0 concept.0 (logs log.old total) }
+    requires places { Places (content deck.now) r.0 places.old log.old total }
+    ensures log { logs log.new result ≡ noted_deltas (content deck.now) r.0 concept.0 (logs log.old total) }
+    ensures places { Places (content deck.now) r.0 places.new log.new result }
 {
     let k = concept.0 as usize;
-    let known = table[k];
-    if known == 0 {
+    let count = table[k];
+    if count == 0 {
         return total;
     }
-    if !has_room(log, total) {
-        return total.saturating_add(known);
+    let place = places[k];
+    if place != 0 {
+        let first = place - 1;
+        return note_again(log, total, Stretch { first, count });
     }
+    if !has_room(log, total) {
+        return total.saturating_add(count);
+    }
+    let held = note_first(deck, r, concept, table, places, log, total);
+    places[k] = total + 1;
+    held
+}
+
+// The same where they stand nowhere yet.
+#[cycle(note_deltas_note_first_note_operands)]
+fn note_first(
+    deck: &Deck,
+    r: RoleId,
+    concept: ConceptId,
+    table: &[u32],
+    places: &mut [u32],
+    log: &mut [u32],
+    total: u32,
+) -> u32
+    requires concept_bound { concept.0 < concept_count (content deck.now) }
+    requires concept_in_bounds { (concept.0 < length table.now) × (concept.0 < length places.old) }
+    requires some { delta_count (content deck.now) r.0 concept.0 ≡ 0 → ⊥ }
+    requires deltas_to { DeltasTo (content deck.now) r.0 table.now (concept.0 + 1) }
+    requires places { Places (content deck.now) r.0 places.old log.old total }
+    ensures log { logs log.new result ≡ noted_deltas (content deck.now) r.0 concept.0 (logs log.old total) }
+    ensures places { Places (content deck.now) r.0 places.new log.new result }
+{
     let expr = deck.concept_at(concept);
     match expr {
         ConceptExpr::Atomic(class) => note(log, total, Reason::RunDelta(class)),
-        ConceptExpr::And(list) => note_operands(deck, r, concept, list, table, log, total),
+        ConceptExpr::And(list) => note_operands(deck, r, concept, list, table, places, log, total),
         _ => total,
     }
 }
 
 // The same of each concept of the list, all below `owner`.
-#[cycle(note_deltas_note_operands)]
+#[cycle(note_deltas_note_first_note_operands)]
 fn note_operands(
     deck: &Deck,
     r: RoleId,
     owner: ConceptId,
     list: Span,
     table: &[u32],
+    places: &mut [u32],
     log: &mut [u32],
     total: u32,
 ) -> u32
     requires owner_bound { owner.0 < concept_count (content deck.now) }
     requires list_fits { ListFits deck.now.bytes.now owner.0 list }
-    requires owner_in_bounds { owner.0 ≤ length table.now }
+    requires owner_in_bounds { (owner.0 ≤ length table.now) × (owner.0 ≤ length places.old) }
     requires deltas_to { DeltasTo (content deck.now) r.0 table.now owner.0 }
-    ensures { logs log.new result ≡ walk (noted_deltas (content deck.now) r.0) (list_of deck.now.bytes.now list) (logs log.old total) }
+    requires places { Places (content deck.now) r.0 places.old log.old total }
+    ensures log { logs log.new result ≡ walk (noted_deltas (content deck.now) r.0) (list_of deck.now.bytes.now list) (logs log.old total) }
+    ensures places { Places (content deck.now) r.0 places.new log.new result }
 {
     let mut held = total;
     for i in 0..list.count {
-        held = note_deltas(deck, r, operand(deck, owner, list, i), table, log, held);
+        held = note_deltas(
+            deck,
+            r,
+            operand(deck, owner, list, i),
+            table,
+            places,
+            log,
+            held,
+        );
     }
     held
 }

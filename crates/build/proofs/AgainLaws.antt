@@ -12,8 +12,7 @@ use mathlib.Core.List.{List}
 use mathlib.Core.Logic.{⊎_elim, ◌⊎◌, inl, inr}
 use native.Mathlib.Omega.{arith}
 use lib.Dec.{eqb}
-use lib.ListN.{length, set, replicate, length-replicate}
-use Rattle.std.proofs.lemmas.List.{get_or-replicate, get_or_past}
+use lib.ListN.{length, set, replicate}
 use lib.Seq.{get_or-set_same, get_or-set_other}
 use borrow.Author.Tests.{eqb-true, eqb-false}
 use Rattle.deck.specs.Deck.{Deck}
@@ -26,7 +25,7 @@ use Rattle.atoms.specs.Walk.{walk}
 use Rattle.atoms.specs.declared.reasons.Stretch.{Stretch}
 use Rattle.atoms.specs.Reasons.{note}
 use Rattle.atoms.specs.Occurrences.{logs}
-use Rattle.atoms.proofs.StandingLaws.{standing-own, standing-walk}
+use Rattle.atoms.proofs.StandingLaws.{standing-own, standing-walk, replicate-at}
 use Rattle.atoms.proofs.RowLaws.{length-rows}
 use Rattle.build.specs.declared.again.Walked.{Walked}
 use Rattle.build.specs.declared.bounds.Bounds.{Bounds}
@@ -48,9 +47,7 @@ one_word n o e c f ho hc q = (omega (arith, ho, hc, q), omega (arith, ho, hc, q)
 
 -- ---- a table of none
 word-of-none : (n i : ℕ) → (walked_at (replicate n none) i).word ≡ 0
-word-of-none n i =
-    ap (λ (w : Walked). w.word)
-    (⊎_elim (λ (h : i < n). get_or-replicate n i none none h) (λ (h : n ≤ i). get_or_past (replicate n none) i none (omega (arith, h, length-replicate {A = Walked} n none))) (lt-or-le i n))
+word-of-none n i = ap (λ (w : Walked). w.word) (replicate-at n i none)
 
 -- ---- a table
 module _ {D : Deck} {floor : List ℕ} {B : Bounds} where
@@ -139,8 +136,8 @@ module _ {s : List ℕ} {B : Bounds} {b : Buffers} {t : Tally} {floor label : Li
   remembered x y {z} f c =
       let G = gave x y in
       let p : m' ≡ with_log m (walk note G.reasons (log_of m)) = built-start X w ∙ given-now G in
-      let n : r.tally.reasons ≡ (walk note G.reasons (log_of m)).total = ap (λ (k : Model). k.state.reasons) p in
-      let S = standing-own G.reasons (log_of m) l f (c ∙ ap (λ (n : ℕ). n - t.reasons) n) in
+      let n : r.tally.reasons ≡ capped (t.reasons + length G.reasons) = ap (λ (k : Model). k.state.reasons) p ∙ walk-total G.reasons (log_of m) l in
+      let S = standing-own G.reasons (log_of m) l f (omega (arith, c, n, l)) in
       subst (λ (k : Model). Remembers D floor B k o e z) (sym p) (record { given = record { reasons = G.reasons; is = G.is }; standing = S })
 
   marked-right : {now : List Walked} (i c f : ℕ) → c < 16384 → (walked_at now i).word ≡ word_of (structure_size m') c f → Marked now i t r.tally o e → Remembers D floor B m' c f (walked_at now i).given
