@@ -5,7 +5,7 @@
 --     kept_same, kept_put       what is done to the table after a walk
 --     right-kept                and it is right again
 --     right-reached, right-passed   after the step to a Some's target; after a walk
-use Prim.Native.Nat.{ℕ, ◌-◌, ◌<◌, ◌≤◌}
+use Prim.Native.Nat.{ℕ, ◌+◌, ◌-◌, ◌<◌, ◌≤◌}
 use mathlib.Core.Bool.{Bool, true, false}
 use mathlib.Core.Path.{◌≡◌, refl, sym, ap, subst, ◌∙◌}
 use mathlib.Core.List.{List}
@@ -24,7 +24,8 @@ use Rattle.atoms.specs.declared.reasons.Reason.{Reason}
 use Rattle.atoms.specs.Walk.{walk}
 use Rattle.atoms.specs.declared.reasons.Stretch.{Stretch}
 use Rattle.atoms.specs.Reasons.{note}
-use Rattle.atoms.specs.Occurrences.{logs}
+use Rattle.atoms.specs.Occurrences.{capped, logs}
+use Rattle.atoms.proofs.OccurrenceLaws.{walk-total}
 use Rattle.atoms.proofs.StandingLaws.{standing-own, standing-walk, replicate-at}
 use Rattle.atoms.proofs.RowLaws.{length-rows}
 use Rattle.build.specs.declared.again.Walked.{Walked}
