@@ -30,22 +30,33 @@ fn word(t: Tally, o: ConceptId, e: Element) -> u64
     (size + 1) * 1073741824 + (e.0 as u64 * 16384 + o.0 as u64)
 }
 
-// Where it stands: the concepts at one element have places of their own, and elements lie far apart.
-fn place(o: ConceptId, e: Element) -> usize
+// Where it stands. While concepts times elements are at most 16,384, each walk has a place of its own. Else the concepts at one element have, and elements up to 254 apart lie at least 63 places apart.
+fn place(concepts: u32, t: Tally, o: ConceptId, e: Element) -> usize
     requires { Worded o.0 e.0 }
     ensures { result < 16384 }
 {
-    ((e.0 * 10125 + o.0) % 16384) as usize
+    let stride = if concepts as u64 * t.elements as u64 <= 16384 {
+        concepts
+    } else {
+        9843
+    };
+    ((e.0 as u64 * stride as u64 + o.0 as u64) % 16384) as usize
 }
 
-// The reasons that the walk of concept o from element e gives while the tally is t, where the table has it.
-pub fn given_again(memo: &[Walked], t: Tally, o: ConceptId, e: Element) -> Option<Stretch>
+// The reasons that the walk of concept o from element e gives while the tally is t, where the table has it. A deck has so many concepts.
+pub fn given_again(
+    memo: &[Walked],
+    concepts: u32,
+    t: Tally,
+    o: ConceptId,
+    e: Element,
+) -> Option<Stretch>
     ensures { IfSome result (λ s. Known memo.now t o.0 e.0 s) }
 {
     if memo.len() < 16384 || !has_word(o, e) {
         return None;
     }
-    let known = memo[place(o, e)];
+    let known = memo[place(concepts, t, o, e)];
     if known.word != word(t, o, e) {
         return None;
     }
@@ -53,7 +64,7 @@ pub fn given_again(memo: &[Walked], t: Tally, o: ConceptId, e: Element) -> Optio
 }
 
 // Remembers the walk of concept o from element e, which took the tally from t to u, where it left elements and edges as they were.
-pub fn remember(memo: &mut [Walked], t: Tally, u: Tally, o: ConceptId, e: Element)
+pub fn remember(memo: &mut [Walked], concepts: u32, t: Tally, u: Tally, o: ConceptId, e: Element)
     requires { t.reasons ≤ u.reasons }
     ensures { Kept memo.old memo.new t u o.0 e.0 }
 {
@@ -67,7 +78,7 @@ pub fn remember(memo: &mut [Walked], t: Tally, u: Tally, o: ConceptId, e: Elemen
         first: t.reasons,
         count: u.reasons - t.reasons,
     };
-    memo[place(o, e)] = Walked {
+    memo[place(concepts, u, o, e)] = Walked {
         word: word(u, o, e),
         given,
     };

@@ -106,7 +106,7 @@ impl Build<'_, '_> {
                 continue;
             }
             self.work_concept(memo, o, e)?;
-            remember(memo, held, self.tally, o, e);
+            remember(memo, deck.concept_count(), held, self.tally, o, e);
         }
         Ok(())
     }

@@ -39,6 +39,6 @@ impl Build<'_, '_> {
         if !goes_on(&deck, o) {
             return Some(Stretch { first: 0, count: 0 });
         }
-        given_again(memo, self.tally, o, e)
+        given_again(memo, deck.concept_count(), self.tally, o, e)
     }
 }
