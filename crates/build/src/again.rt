@@ -30,7 +30,7 @@ fn word(t: Tally, o: ConceptId, e: Element) -> u64
     (size + 1) * 1073741824 + (e.0 as u64 * 16384 + o.0 as u64)
 }
 
-// Where it stands. While concepts times elements are at most 16,384, each walk has a place of its own. Else the concepts at one element have, and elements up to 254 apart lie at least 63 places apart.
+// Where it stands, by how many concepts the deck has. While concepts times elements are at most 16,384, each walk has a place of its own. Else the concepts at one element have, and elements up to 254 apart lie at least 63 places apart.
 fn place(concepts: u32, t: Tally, o: ConceptId, e: Element) -> usize
     requires { Worded o.0 e.0 }
     ensures { result < 16384 }
@@ -43,7 +43,7 @@ fn place(concepts: u32, t: Tally, o: ConceptId, e: Element) -> usize
     ((e.0 as u64 * stride as u64 + o.0 as u64) % 16384) as usize
 }
 
-// The reasons that the walk of concept o from element e gives while the tally is t, where the table has it. A deck has so many concepts.
+// The reasons that the walk of concept o from element e gives while the tally is t, where the table has it; the deck's concepts as in `place`.
 pub fn given_again(
     memo: &[Walked],
     concepts: u32,
