@@ -5,12 +5,12 @@
 #include <time.h>
 #include "../../include/style_deck.h"
 
-enum { CLASSES = 256, LEVELS = 60, ROOM = 4096, EDGES = 2000, ALL = 254, UNSATISFIABLE = 255 };
+enum { CLASSES = 256, LEVELS = 60, ROOM = 4096, EDGES = 2000, ALL = 254, UNSATISFIABLE = 255, SMALL = 30, LARGE = 3000000 };
 enum { TOP = 0, ATOMIC = 2, AND = 6, SOME = 8, SUB_CLASS = 0 };
 static uint32_t concepts[ROOM], lists[ROOM], words[3 * ROOM], concept_count, list_count, first, last;
 static uint64_t labels[(CLASSES + 60) * 4];
 static style_deck_edge edges[EDGES + 1];
-static uint32_t verdicts[4], answer[4], log_words[30];
+static uint32_t verdicts[4], answer[4], log_words[LARGE];
 static size_t length;
 
 static uint32_t concept(uint32_t tag, uint32_t x, uint32_t y) {
@@ -57,7 +57,8 @@ static void finish(uint32_t sub, uint32_t sup) {
     length = at * 4;
 }
 
-static int measure(const char *name) {
+/* With a log of so many words. */
+static int measure_in(size_t log, const char *name) {
     int bad = 0;
     for (uint32_t phase = 1; phase <= 4; phase++) {
         uint32_t refusal = 0;
@@ -66,7 +67,7 @@ static int measure(const char *name) {
             struct timespec a, b;
             clock_gettime(CLOCK_THREAD_CPUTIME_ID, &a);
             refusal |= style_deck_run((const uint8_t *)words, length, CLASSES + 50, EDGES, 100, phase, labels, (CLASSES + 60) * 4,
-                                      edges, EDGES + 1, log_words, 30, verdicts, 4, answer, 4);
+                                      edges, EDGES + 1, log_words, log, verdicts, 4, answer, 4);
             clock_gettime(CLOCK_THREAD_CPUTIME_ID, &b);
             double took = (b.tv_sec - a.tv_sec) + (b.tv_nsec - a.tv_nsec) / 1e9;
             if (took < best) best = took;
@@ -78,6 +79,8 @@ static int measure(const char *name) {
     return bad;
 }
 
+static int measure(const char *name) { return measure_in(SMALL, name); }
+
 int main(void) {
     int bad = 0;
     start(), finish(doubled(concept(TOP, 0, 0)), concept(SOME, 0, first)), bad |= measure("a universal antecedent");
@@ -86,9 +89,11 @@ int main(void) {
     start(), finish(last, concept(SOME, 0, doubled(first))), bad |= measure("a body's atoms");
     start(), finish(last, concept(SOME, 2, doubled(first))), bad |= measure("a body's atoms, LabelNotClosed");
     start(), finish(last, concept(SOME, 4, doubled(first))), bad |= measure("a body's atoms, RunDelta");
+    bad |= measure_in(LARGE, "the same, a log of 1,000,000 reasons");
     start(), finish(last, doubled(concept(SOME, 0, first))), bad |= measure("a consequent");
     start(), finish(last, doubled(concept(SOME, 2, first))), bad |= measure("a consequent, LabelNotClosed");
     start(), finish(last, doubled(concept(SOME, 4, first))), bad |= measure("a consequent, RunDelta");
+    bad |= measure_in(LARGE, "the same, a log of 1,000,000 reasons");
     start();
     uint32_t some = concept(SOME, 0, first);
     for (int k = 0; k < LEVELS; k++) some = concept(SOME, 0, both(some, some));

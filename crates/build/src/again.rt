@@ -1,4 +1,4 @@
-// Walks of a concept from an element that left elements and edges as they were, remembered in a lent table until the structure has grown: made again, each would give the reasons that it gave. A table of fewer than 16,384 walks remembers none; an `Option` of a table is no plainer, as a loop would have to lend out what it holds anew for each call.
+// Walks of a concept from an element that left elements and edges as they were, remembered in a lent table until the structure has grown: made again, each would give the reasons that it gave. A table of fewer than 8,192 walks remembers none; an `Option` of a table is no plainer, as a loop would have to lend out what it holds anew for each call.
 // The tally goes beside the table, as it is the build's.
 ghost use Rattle.std.specs.Prelude.{◌≡◌, true, ◌<◌, ◌≤◌, IfSome};
 ghost use Rattle.build.specs.Again.{size_of, word_of, Worded, Known, Kept};
@@ -30,17 +30,17 @@ fn word(t: Tally, o: ConceptId, e: Element) -> u64
     (size + 1) * 1073741824 + (e.0 as u64 * 16384 + o.0 as u64)
 }
 
-// Where it stands, by how many concepts the deck has. While concepts times elements are at most 16,384, each walk has a place of its own. Else the concepts at one element have, and elements up to 254 apart lie at least 63 places apart.
+// Where it stands, by how many concepts the deck has. While concepts times elements are at most 8,192, each walk has a place of its own. Else the first 8,192 concepts at one element have, and elements up to 254 apart lie at least 31 places apart.
 fn place(concepts: u32, t: Tally, o: ConceptId, e: Element) -> usize
     requires { Worded o.0 e.0 }
-    ensures { result < 16384 }
+    ensures { result < 8192 }
 {
-    let stride = if concepts as u64 * t.elements as u64 <= 16384 {
+    let stride = if concepts as u64 * t.elements as u64 <= 8192 {
         concepts
     } else {
-        9843
+        5451
     };
-    ((e.0 as u64 * stride as u64 + o.0 as u64) % 16384) as usize
+    ((e.0 as u64 * stride as u64 + o.0 as u64) % 8192) as usize
 }
 
 // The reasons that the walk of concept o from element e gives while the tally is t, where the table has it; the deck's concepts as in `place`.
@@ -53,7 +53,7 @@ pub fn given_again(
 ) -> Option<Stretch>
     ensures { IfSome result (λ s. Known memo.now t o.0 e.0 s) }
 {
-    if memo.len() < 16384 || !has_word(o, e) {
+    if memo.len() < 8192 || !has_word(o, e) {
         return None;
     }
     let known = memo[place(concepts, t, o, e)];
@@ -68,7 +68,7 @@ pub fn remember(memo: &mut [Walked], concepts: u32, t: Tally, u: Tally, o: Conce
     requires { t.reasons ≤ u.reasons }
     ensures { Kept memo.old memo.new t u o.0 e.0 }
 {
-    if memo.len() < 16384 || !has_word(o, e) {
+    if memo.len() < 8192 || !has_word(o, e) {
         return;
     }
     if t.elements != u.elements || t.edges != u.edges {

@@ -33,7 +33,7 @@ impl Build<'_, '_> {
         ensures place { IfOk result (λ e. e.0 ≡ index_of (model_of self.old).labels (spec.body_label (deck_in self.old) self.old.plan.floor.now self.old.plan.bounds role.0 concept.0 (model_of self.old))) }
     {
         let deck = self.plan.deck;
-        let short = memo.len() < 16384;
+        let short = memo.len() < 8192;
         self.tally.reasons = body_label_known(
             &deck,
             role,
@@ -114,7 +114,7 @@ impl Build<'_, '_> {
     // The same with a table of N walks, whose room is made in a frame of its own. One of 1 remembers none, and costs nothing to clear.
     #[inline(never)]
     fn work_with<const N: usize>(&mut self, concept: ConceptId, e: Element) -> Result<(), Tripped>
-        requires words { (0 < N) × (N ≤ 16384) }
+        requires walks { (0 < N) × (N ≤ 8192) }
         requires ready { Ready self.old }
         requires concept_bound { concept.0 < concept_count (deck_in self.old) }
         ensures { Holds self.old self.new (is_err result) (spec.work (deck_in self.old) self.old.plan.floor.now self.old.plan.bounds concept.0 e.0 (model_of self.old)) }
@@ -142,6 +142,6 @@ impl Build<'_, '_> {
         if is_short(&deck, sizes, concept) {
             return self.work_with::<1>(concept, e);
         }
-        self.work_with::<16384>(concept, e)
+        self.work_with::<8192>(concept, e)
     }
 }
