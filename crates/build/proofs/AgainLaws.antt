@@ -1,7 +1,7 @@
 -- The table of walks that were made before.
 --     begun-size                the size of the structure that buffers hold
 --     right-zeros, right-grows  a table of none; a table stays right while the structure grows
---     known-gives, gives-now    what a walk that is known gives, and leaves
+--     known-gives, known-in, gives-now    what a walk that is known gives, and leaves
 --     kept_same, kept_put       what is done to the table after a walk
 --     right-kept                and it is right again
 --     right-reached, right-passed   after the step to a Some's target; after a walk
@@ -30,6 +30,8 @@ use Rattle.atoms.proofs.StandingLaws.{standing-own, standing-walk, replicate-at}
 use Rattle.atoms.proofs.RowLaws.{length-rows}
 use Rattle.build.specs.declared.again.Walked.{Walked}
 use Rattle.build.specs.declared.bounds.Bounds.{Bounds}
+use Rattle.build.specs.declared.building.Build.{Build}
+use Rattle.build.specs.Building.{deck_in, buffers, model_by, Ready}
 use Rattle.build.specs.declared.tally.Tally.{Tally}
 use Rattle.build.specs.Push.{Step}
 use Rattle.build.specs.Model.{Model, Buffers, lent, begun, Prepared, Built}
@@ -92,6 +94,10 @@ module _ {D : Deck} {floor : List ℕ} {B : Bounds} where
   pub right-passed : {table : List Walked} {m k : Model} (o e : ℕ) → Right D floor B table m → k ≡ work D floor B o e m → Right D floor B table k
   right-passed {table} {m} o e Q p = subst (Right D floor B table) (sym p) (right-grows Q (work-adds D floor B o e m))
 
+-- the same of a structure in the making
+pub known-in : (a b : Build) {table : List Walked} {o e : ℕ} {s : Stretch} → Ready b → Right (deck_in a) a.plan.floor.now a.plan.bounds table (model_by a b) → Known table b.tally o e s → Remembers (deck_in a) a.plan.floor.now a.plan.bounds (model_by a b) o e s
+known-in a b P R K = known-gives (buffers b) R (omega (arith, P.space.bound, P.space.room)) K
+
 -- ---- after a walk of concept o from element e that took the tally from t to u
 module _ (table : List Walked) (t u : Tally) (o e : ℕ) where
   pub kept_same : Kept table table t u o e
@@ -106,7 +112,7 @@ module _ (table : List Walked) (t u : Tally) (o e : ℕ) where
           inr (record { elements = x; edges = y; worded = W; word = ap (λ (v : Walked). v.word) k ∙ q; first = ap (λ (v : Walked). v.given.first) k ∙ f; count = ap (λ (v : Walked). v.given.count) k ∙ r })
       go i false p = inl (get_or-set_other table at i w none (eqb-false i at p))
 
-module _ {s : List ℕ} {B : Bounds} {b : Buffers} {t : Tally} {floor label : List ℕ} (P : Prepared s B b t floor label) (l : t.reasons ≤ 4294967295) (o e : ℕ) {b' : Buffers} {l' : List ℕ} {r : Step}
+module _ {s : List ℕ} {B : Bounds} {b : Buffers} {t : Tally} {floor label : List ℕ} (P : Prepared s B b t floor label) (o e : ℕ) {b' : Buffers} {l' : List ℕ} {r : Step}
     (X : Built (deck_of s) B b t b' l' r (work (deck_of s) floor B o e (begun (deck_of s) b t))) (w : r.tripped ≡ false) where
   abbrev D : Deck
   D = deck_of s
@@ -133,24 +139,24 @@ module _ {s : List ℕ} {B : Bounds} {b : Buffers} {t : Tally} {floor label : Li
       let q : structure_size m' ≡ structure_size (work D floor B o e m) = ap structure_size (built-start X w) in
       adds.still (omega (arith, q, now-size, was, x, y)) (subst LiveModel (built-start X w) refl)
 
-  remembered : t.elements ≡ r.tally.elements → t.edges ≡ r.tally.edges → {z : Stretch} → z.first ≡ t.reasons → z.count ≡ r.tally.reasons - t.reasons → Remembers D floor B m' o e z
-  remembered x y {z} f c =
+  remembered : t.reasons ≤ 4294967295 → t.elements ≡ r.tally.elements → t.edges ≡ r.tally.edges → {z : Stretch} → z.first ≡ t.reasons → z.count ≡ r.tally.reasons - t.reasons → Remembers D floor B m' o e z
+  remembered l x y {z} f c =
       let G = gave x y in
       let p : m' ≡ with_log m (walk note G.reasons (log_of m)) = built-start X w ∙ given-now G in
       let n : r.tally.reasons ≡ capped (t.reasons + length G.reasons) = ap (λ (k : Model). k.state.reasons) p ∙ walk-total G.reasons (log_of m) l in
       let S = standing-own G.reasons (log_of m) l f (omega (arith, c, n, l)) in
       subst (λ (k : Model). Remembers D floor B k o e z) (sym p) (record { given = record { reasons = G.reasons; is = G.is }; standing = S })
 
-  marked-right : {now : List Walked} (i c f : ℕ) → c < 16384 → (walked_at now i).word ≡ word_of (structure_size m') c f → Marked now i t r.tally o e → Remembers D floor B m' c f (walked_at now i).given
-  marked-right {now} i c f hc q M =
+  marked-right : t.reasons ≤ 4294967295 → {now : List Walked} (i c f : ℕ) → c < 16384 → (walked_at now i).word ≡ word_of (structure_size m') c f → Marked now i t r.tally o e → Remembers D floor B m' c f (walked_at now i).given
+  marked-right l {now} i c f hc q M =
       let x = one_word (size_of r.tally) o e c f M.worded.concept hc (sym M.word ∙ q ∙ ap (λ (n : ℕ). word_of n c f) now-size) in
-      rw (x.0, x.1) (remembered M.elements M.edges M.first M.count)
+      rw (x.0, x.1) (remembered l M.elements M.edges M.first M.count)
 
-  pub right-kept : {was now : List Walked} → Right D floor B was m' → Kept was now t r.tally o e → Right D floor B now m'
-  right-kept {was} {now} Q K = record {
+  pub right-kept : t.reasons ≤ 4294967295 → {was now : List Walked} → Right D floor B was m' → Kept was now t r.tally o e → Right D floor B now m'
+  right-kept l {was} {now} Q K = record {
     again = λ i c f hc hf v q.
         ⊎_elim
         (λ (p : walked_at now i ≡ walked_at was i). subst (λ (k : Walked). Remembers D floor B m' c f k.given) (sym p) (Q.again i c f hc hf v (sym (ap (λ (k : Walked). k.word) p) ∙ q)))
-        (λ (M : Marked now i t r.tally o e). marked-right i c f hc q M) (K.each i);
+        (λ (M : Marked now i t r.tally o e). marked-right l i c f hc q M) (K.each i);
     old = λ i. ⊎_elim (λ (p : walked_at now i ≡ walked_at was i). omega (arith, ap (λ (k : Walked). k.word) p, Q.old i)) (λ (M : Marked now i t r.tally o e). omega (arith, M.word, now-size, M.worded.concept, M.worded.element)) (K.each i);
   }

@@ -1,16 +1,11 @@
 -- Consequents that add nothing.
 --     either                        both sides of a test come to the same
 --     no-build, form-idle           by the form of the concept
---     skipped-gives                 what a walk gives that need not be made, by its form or by the table
---     known-in                      the same of a structure in the making
 --     builds-and, …, builds-other   whether a concept that was read goes further
-use Prim.Native.Nat.{ℕ, ◌≤◌}
+use Prim.Native.Nat.{ℕ}
 use mathlib.Core.Bool.{Bool, true, false, cond, not}
 use mathlib.Core.Path.{◌≡◌, refl, ap, ◌∙◌}
 use mathlib.Core.List.{List, [], ◌∷◌}
-use mathlib.Core.Logic.{⊎_elim}
-use native.Mathlib.Omega.{arith}
-use lib.ListN.{length}
 use types.Run.{OneOf, miss}
 use denote.Enum.Declared.{tag_of}
 use Rattle.deck.specs.contracts.concepts.ConceptExpr.{the_type}
@@ -26,17 +21,8 @@ use Rattle.eval.specs.Numbered.{numbered}
 use Rattle.eval.proofs.Clash.{clash}
 use Rattle.atoms.proofs.FloorLaws.{read_is}
 use Rattle.build.specs.declared.bounds.Bounds.{Bounds}
-use Rattle.build.specs.declared.building.Build.{Build}
-use Rattle.build.specs.Building.{deck_in, buffers, model_by, Ready, Same}
-use Rattle.build.specs.declared.tally.Tally.{Tally}
-use Rattle.build.specs.Model.{Model, Buffers, begun}
+use Rattle.build.specs.Model.{Model}
 use Rattle.build.specs.Exists.{builds, builds_at, work_of, work_step, work}
-use Rattle.build.specs.declared.again.Walked.{Walked}
-use Rattle.build.specs.Again.{with_log, Remembers, no_stretch, Known, Right, Skipped}
-use Rattle.build.proofs.AgainLaws.{known-gives}
-use Rattle.atoms.specs.declared.reasons.Stretch.{Stretch}
-use Rattle.atoms.specs.Walk.{walk}
-use Rattle.atoms.proofs.StandingLaws.{standing-none}
 
 pub either : {A : Type 0} (b : Bool) {x y z : A} → x ≡ z → y ≡ z → cond b x y ≡ z
 either true p q = p
@@ -62,23 +48,6 @@ no-build D floor B f e m (Concept.Max n r b) h = refl
 pub form-idle : (D : Deck) (floor : List ℕ) (B : Bounds) (c e : ℕ) (m : Model) → builds_at D c ≡ false → work D floor B c e m ≡ m
 unfolding work numbered work_step builds_at
 form-idle D floor B c e m h = either m.state.tripped refl (no-build D floor B _ e m (concept_at D c) h)
-
--- a walk that need not be made
-pub skipped-gives : {D : Deck} {floor : List ℕ} {B : Bounds} {table : List Walked} (b : Buffers) {t : Tally} {o e : ℕ} {s : Stretch} → Right D floor B table (begun D b t) → t.edges ≤ length b.edges → t.reasons ≤ 4294967295 → Skipped D table t o e s
-    → Remembers D floor B (begun D b t) o e s
-unfolding walk
-skipped-gives {D} {floor} {B} {table} b {t} {o} {e} {s} R h l =
-    ⊎_elim
-    (λ (f : (builds_at D o ≡ false) × (s ≡ no_stretch)). record {
-      given = record { reasons = []; is = λ g. form-idle D floor B o e (with_log (begun D b t) g) f.0 };
-      standing = standing-none b.log t.reasons l (ap (λ (z : Stretch). z.first) f.1) (ap (λ (z : Stretch). z.count) f.1);
-    })
-    (λ (k : Known table t o e s). known-gives b R h k)
-
--- the same of a structure in the making
-pub known-in : {a b : Build} {table : List Walked} {o e : ℕ} {s : Stretch} → Same a b → Ready b → Right (deck_in a) a.plan.floor.now a.plan.bounds table (model_by a b) → b.tally.reasons ≤ 4294967295 → Skipped (deck_in b) table b.tally o e s
-    → Remembers (deck_in a) a.plan.floor.now a.plan.bounds (model_by a b) o e s
-known-in {a} {b} S P R l K = skipped-gives (buffers b) R (omega (arith, P.space.bound, P.space.room)) l (rw S.plan at K)
 
 -- a concept that is neither an And nor a Some
 not-builds : (s : List ℕ) (v : ConceptExpr) → OneOf (0 ∷ 1 ∷ 2 ∷ 3 ∷ 4 ∷ 5 ∷ 7 ∷ 9 ∷ 10 ∷ 11 ∷ []) (tag_of the_type v) → false ≡ builds (expr_of s v)

@@ -10,7 +10,7 @@ use Rattle.atoms.specs.declared.reasons.Stretch.{Stretch}
 use Rattle.atoms.specs.Reasons.{Log, note}
 use Rattle.atoms.specs.Occurrences.{Standing}
 use Rattle.build.specs.Model.{Model, with_state}
-use Rattle.build.specs.Exists.{work, builds_at}
+use Rattle.build.specs.Exists.{work}
 
 -- ---- how large a structure is: steps of building only add
 abbrev pub size_of : Tally → ℕ
@@ -73,10 +73,6 @@ pub record Known (table : List Walked) (t : Tally) (o e : ℕ) (s : Stretch) : T
   pub place : ℕ
   pub word : (walked_at table place).word ≡ word_of (size_of t) o e
   pub given : (walked_at table place).given ≡ s
-
--- a walk that need not be made, as what it gives is known: by the form of its concept, or by the table
-abbrev pub Skipped : Deck → List Walked → Tally → ℕ → ℕ → Stretch → Type 0
-Skipped D table t o e s = ((builds_at D o ≡ false) × (s ≡ no_stretch)) ⊎ Known table t o e s
 
 -- every walk whose word stands in the table gives in m what the table says, and no word is of a larger structure
 pub record Right (D : Deck) (floor : List ℕ) (B : Bounds) (table : List Walked) (m : Model) : Type 0 where

@@ -5,6 +5,7 @@ ghost use Rattle.build.specs.Again.{size_of, word_of, Worded, Known, Kept};
 
 use crate::tally::Tally;
 use atoms::reasons::Stretch;
+use deck::Deck;
 use deck::numbers::{ConceptId, Element};
 
 // A walk, by its word, and the reasons that it gave. The word of none is 0.
@@ -43,10 +44,10 @@ fn place(concepts: u32, t: Tally, o: ConceptId, e: Element) -> usize
     ((e.0 as u64 * stride as u64 + o.0 as u64) % 8192) as usize
 }
 
-// The reasons that the walk of concept o from element e gives while the tally is t, where the table has it; the deck's concepts as in `place`.
+// The reasons that the walk of concept o from element e gives while the tally is t, where the table has it.
 pub fn given_again(
+    deck: &Deck,
     memo: &[Walked],
-    concepts: u32,
     t: Tally,
     o: ConceptId,
     e: Element,
@@ -56,7 +57,7 @@ pub fn given_again(
     if memo.len() < 8192 || !has_word(o, e) {
         return None;
     }
-    let known = memo[place(concepts, t, o, e)];
+    let known = memo[place(deck.concept_count(), t, o, e)];
     if known.word != word(t, o, e) {
         return None;
     }
@@ -64,9 +65,10 @@ pub fn given_again(
 }
 
 // Remembers the walk of concept o from element e, which took the tally from t to u, where it left elements and edges as they were.
-pub fn remember(memo: &mut [Walked], concepts: u32, t: Tally, u: Tally, o: ConceptId, e: Element)
+pub fn remember(deck: &Deck, memo: &mut [Walked], t: Tally, u: Tally, o: ConceptId, e: Element)
     requires { t.reasons ≤ u.reasons }
-    ensures { Kept memo.old memo.new t u o.0 e.0 }
+    ensures kept { Kept memo.old memo.new t u o.0 e.0 }
+    ensures total { t.reasons ≤ 4294967295 }
 {
     if memo.len() < 8192 || !has_word(o, e) {
         return;
@@ -78,7 +80,7 @@ pub fn remember(memo: &mut [Walked], concepts: u32, t: Tally, u: Tally, o: Conce
         first: t.reasons,
         count: u.reasons - t.reasons,
     };
-    memo[place(concepts, u, o, e)] = Walked {
+    memo[place(deck.concept_count(), u, o, e)] = Walked {
         word: word(u, o, e),
         given,
     };

@@ -8,8 +8,9 @@ ghost use Rattle.build.specs.Exists as spec;
 ghost use Rattle.build.specs.Building.{Ready, Holds, deck_in, model_of, model_by};
 ghost use Rattle.build.specs.Again.{Right};
 
-use crate::again::{Walked, remember};
+use crate::again::{Walked, given_again, remember};
 use crate::building::{Build, Tripped};
+use crate::idle::goes_on;
 use atoms::body::body_label_known;
 use atoms::reasons::{Stretch, note_again};
 use atoms::visits::is_short;
@@ -81,7 +82,7 @@ impl Build<'_, '_> {
         }
     }
 
-    // The same of each concept of the list, all below `owner`, but for walks that need not be made: what these give is noted.
+    // The same of each concept of the list, all below `owner`, but for those that add nothing; a walk that was made before is not made again, what it gave is noted.
     #[cycle(work_concept_work_operands)]
     fn work_operands(
         &mut self,
@@ -100,13 +101,16 @@ impl Build<'_, '_> {
         let deck = self.plan.deck;
         for i in 0..list.count {
             let o = ConceptId(deck.item(list, i));
+            if !goes_on(&deck, o) {
+                continue;
+            }
             let held = self.tally;
-            if let Some(given) = self.known_to_give(memo, o, e) {
+            if let Some(given) = given_again(&deck, memo, held, o, e) {
                 self.tally.reasons = note_again(self.log, held.reasons, given);
                 continue;
             }
             self.work_concept(memo, o, e)?;
-            remember(memo, deck.concept_count(), held, self.tally, o, e);
+            remember(&deck, memo, held, self.tally, o, e);
         }
         Ok(())
     }

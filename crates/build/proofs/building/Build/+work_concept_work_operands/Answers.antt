@@ -1,12 +1,12 @@
 use Rattle.std.proofs.Common.{refl, sym, ◌∙◌, ◌≤◌, length, arith}
 use Rattle.std.proofs.lemmas.Result.{err_from_is_err_and}
 use borrow.Enum.Refused.{opened}
-use Rattle.build.proofs.BuildingLaws.{same-refl, same-trans, holds-noted, holds-is, ready-at, walking-start, walking-ready, walking-next, walking-stop, walking-done}
-use Rattle.build.proofs.AgainLaws.{gives-now, right-reached, right-passed, more-reasons, right-kept}
-use Rattle.build.proofs.IdleLaws.{known-in}
+use Rattle.build.proofs.BuildingLaws.{same-refl, same-trans, holds-noted, holds-is, ready-at, walking-start, walking-ready, walking-skip, walking-next, walking-stop, walking-done}
+use Rattle.build.proofs.AgainLaws.{known-in, gives-now, right-reached, right-passed, more-reasons, right-kept}
+use Rattle.build.proofs.IdleLaws.{form-idle}
 use Rattle.build.proofs.ExistsLaws.{work-stuck, and-leaves, inverse-leaves, some-stops, some-goes, other-leaves, descending-start, descending-next, descending-ends}
 use Rattle.build.proofs.BuildLaws.{prepared-after}
-use Rattle.build.specs.Building.{buffers}
+use Rattle.build.specs.Building.{buffers, model_by}
 use Rattle.atoms.proofs.FloorLaws.{fits_read}
 use Rattle.atoms.proofs.WalkLaws.{operand}
 use Rattle.deck.proofs.TableLaws.{list_length}
@@ -70,10 +70,18 @@ pub work_operands-loop-i-init : goal.work_operands-loop-i-init
 work_operands-loop-i-init t c =
     (refl, walking-start _ _ c.requires.ready, c.requires.right)
 
+pub work_operands-loop-i-preserved-then-not-goes_on : goal.work_operands-loop-i-preserved-then-not-goes_on
+work_operands-loop-i-preserved-then-not-goes_on t c =
+    let G = c.loop-i.invariant in
+    let l = c.args.list in
+    let s = c.args.self.now.plan.deck.bytes.now in
+    let q = operand (list_of s l) c.loop-i.i (omega (arith, list_length s l.start l.count)) c.item.ensures in
+    (G.0, walking-skip G.1 q c.requires.ready (sym (form-idle _ _ _ _ c.args.e.0 (model_by c.args.self.now c.loop-i.self) (sym c.goes_on.ensures ∙ c.if-not-goes_on.true))), G.2)
+
 pub work_operands-note_again-self-requires : goal.work_operands-note_again-self-requires
 work_operands-note_again-self-requires t c =
     let G = c.loop-i.invariant in
-    (known-in G.1.same (walking-ready G.1 c.requires.ready) G.2 c.known_to_give.ensures.total c.in-Some.ensures.skipped).standing.since
+    (known-in c.args.self.now c.loop-i.self (walking-ready G.1 c.requires.ready) G.2 c.in-Some.ensures).standing.since
 
 pub work_operands-loop-i-preserved-in-Some : goal.work_operands-loop-i-preserved-in-Some
 work_operands-loop-i-preserved-in-Some t c =
@@ -83,7 +91,7 @@ work_operands-loop-i-preserved-in-Some t c =
     let s = c.args.self.now.plan.deck.bytes.now in
     let P = walking-ready G.1 c.requires.ready in
     let q = operand (list_of s l) c.loop-i.i (omega (arith, list_length s l.start l.count)) c.item.ensures in
-    let R = known-in G.1.same P G.2 c.known_to_give.ensures.total c.in-Some.ensures.skipped in
+    let R = known-in c.args.self.now c.loop-i.self P G.2 c.in-Some.ensures in
     let e = gives-now (buffers c.loop-i.self) c.loop-i.self.tally R (c.note_again-self.ensures R.given.reasons R.standing) in
     (G.0, walking-next G.1 q (holds-is (holds-noted c.note_again-self.result P refl c.note_again-self.auto.log) (rw Z e)) refl, right-passed _ _ G.2 e)
 
@@ -92,7 +100,7 @@ work_operands-remember-requires t c =
     let G = c.loop-i.invariant in
     let Z = G.1.same.plan in
     let X = c.in_ok-work_concept.ensures in
-    more-reasons (prepared-after c.requires.ready G.1.on.built refl) c.known_to_give.ensures.total _ _ (rw Z at X.holds.built) refl
+    more-reasons (prepared-after c.requires.ready G.1.on.built refl) _ _ (rw Z at X.holds.built) refl
 
 pub work_operands-work_concept-requires : goal.work_operands-work_concept-requires
 work_operands-work_concept-requires t c =
@@ -118,7 +126,7 @@ work_operands-loop-i-preserved t c =
     let s = c.args.self.now.plan.deck.bytes.now in
     let X = c.in_ok-work_concept.ensures in
     let q = operand (list_of s l) c.loop-i.i (omega (arith, list_length s l.start l.count)) c.item.ensures in
-    (c.remember.auto.memo ∙ c.work_concept.auto.memo ∙ G.0, walking-next G.1 q X.holds refl, right-kept (prepared-after c.requires.ready G.1.on.built refl) c.known_to_give.ensures.total _ _ (rw Z at X.holds.built) refl (rw Z at X.known) c.remember.ensures)
+    (c.remember.auto.memo ∙ c.work_concept.auto.memo ∙ G.0, walking-next G.1 q X.holds refl, right-kept (prepared-after c.requires.ready G.1.on.built refl) _ _ (rw Z at X.holds.built) refl c.remember.ensures.total (rw Z at X.known) c.remember.ensures.kept)
 
 pub work_operands-returns-clause-holds : goal.work_operands-returns-clause-holds
 work_operands-returns-clause-holds t c =
