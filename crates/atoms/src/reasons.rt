@@ -105,7 +105,8 @@ pub struct Stretch {
     pub count: u32,
 }
 
-// The reasons of a stretch once more, where `total` were given; the new total.
+// The reasons of a stretch once more, where `total` were given; the new total. Seldom called: never inlined, it takes no registers from the loops that call it.
+#[inline(never)]
 pub fn note_again(log: &mut [u32], total: u32, stretch: Stretch) -> u32
     requires { stretch.first ≤ total }
     ensures { (xs : List Reason) → Standing log.old stretch total xs → logs log.new result ≡ walk note xs (logs log.old total) }

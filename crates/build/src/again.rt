@@ -1,6 +1,6 @@
 // Walks of a concept from an element that left elements and edges as they were, remembered in a lent table until the structure has grown: made again, each would give the reasons that it gave. A table of fewer than 8,192 walks remembers none; an `Option` of a table is no plainer, as a loop would have to lend out what it holds anew for each call.
 // The tally goes beside the table, as it is the build's.
-ghost use Rattle.std.specs.Prelude.{◌≡◌, true, ◌<◌, ◌≤◌, IfSome};
+ghost use Rattle.std.specs.Prelude.{◌≡◌, true, ◌<◌, ◌≤◌, length, IfSome};
 ghost use Rattle.build.specs.Again.{size_of, word_of, Worded, Known, Kept};
 
 use crate::tally::Tally;
@@ -45,16 +45,12 @@ fn place(concepts: u32, t: Tally, o: ConceptId, e: Element) -> usize
 }
 
 // The reasons that the walk of concept o from element e gives while the tally is t, where the table has it.
-pub fn given_again(
-    deck: &Deck,
-    memo: &[Walked],
-    t: Tally,
-    o: ConceptId,
-    e: Element,
-) -> Option<Stretch>
+#[inline(never)]
+fn look_up(deck: &Deck, memo: &[Walked], t: Tally, o: ConceptId, e: Element) -> Option<Stretch>
+    requires { 8192 ≤ length memo.now }
     ensures { IfSome result (λ s. Known memo.now t o.0 e.0 s) }
 {
-    if memo.len() < 8192 || !has_word(o, e) {
+    if !has_word(o, e) {
         return None;
     }
     let known = memo[place(deck.concept_count(), t, o, e)];
@@ -64,13 +60,30 @@ pub fn given_again(
     Some(known.given)
 }
 
-// Remembers the walk of concept o from element e, which took the tally from t to u, where it left elements and edges as they were.
-pub fn remember(deck: &Deck, memo: &mut [Walked], t: Tally, u: Tally, o: ConceptId, e: Element)
-    requires { t.reasons ≤ u.reasons }
-    ensures kept { Kept memo.old memo.new t u o.0 e.0 }
-    ensures total { t.reasons ≤ 4294967295 }
+// The same of any table. The rest of both functions below is never inlined, so that a walk without a table goes through operands by a short loop.
+pub fn given_again(
+    deck: &Deck,
+    memo: &[Walked],
+    t: Tally,
+    o: ConceptId,
+    e: Element,
+) -> Option<Stretch>
+    ensures { IfSome result (λ s. Known memo.now t o.0 e.0 s) }
 {
-    if memo.len() < 8192 || !has_word(o, e) {
+    if memo.len() < 8192 {
+        return None;
+    }
+    look_up(deck, memo, t, o, e)
+}
+
+// Remembers the walk of concept o from element e, which took the tally from t to u, where it left elements and edges as they were.
+#[inline(never)]
+fn store(deck: &Deck, memo: &mut [Walked], t: Tally, u: Tally, o: ConceptId, e: Element)
+    requires table { 8192 ≤ length memo.old }
+    requires reasons { t.reasons ≤ u.reasons }
+    ensures { Kept memo.old memo.new t u o.0 e.0 }
+{
+    if !has_word(o, e) {
         return;
     }
     if t.elements != u.elements || t.edges != u.edges {
@@ -84,4 +97,16 @@ pub fn remember(deck: &Deck, memo: &mut [Walked], t: Tally, u: Tally, o: Concept
         word: word(u, o, e),
         given,
     };
+}
+
+// The same in any table.
+pub fn remember(deck: &Deck, memo: &mut [Walked], t: Tally, u: Tally, o: ConceptId, e: Element)
+    requires { t.reasons ≤ u.reasons }
+    ensures kept { Kept memo.old memo.new t u o.0 e.0 }
+    ensures total { t.reasons ≤ 4294967295 }
+{
+    if memo.len() < 8192 {
+        return;
+    }
+    store(deck, memo, t, u, o, e);
 }
