@@ -1,7 +1,8 @@
 -- Reasons that stand in the log, noted once more.
 --     stand-note, stand-walk    what stands before the total stays there while more are noted
 --     stand-own                 what was noted stands where the total was
---     standing-own, standing-walk, standing-none    a stretch of the log
+--     standing-own, standing-walk    a stretch of the log
+--     noted-length              one more reason leaves the log as long
 --     Copied                    the loop that notes one once more
 use Prim.Native.Nat.{ℕ, ◌+◌, ◌*◌, ◌/◌, ◌<◌, ◌≤◌}
 use mathlib.Core.Bool.{Bool, true, false, cond, ◌&&◌}
@@ -74,7 +75,7 @@ logged-there words n (Reason.BoundTripped bound limit) h = at-written words n 3 
 logged-there words n (Reason.AxiomsDropped dropped) h = at-written words n 4 dropped 0 h
 
 -- ---- more reasons
-noted-length : (words : List ℕ) (total : ℕ) (x : Reason) → length (noted words total x) ≡ length words
+pub noted-length : (words : List ℕ) (total : ℕ) (x : Reason) → length (noted words total x) ≡ length words
 unfolding noted
 noted-length words total x = go (has_room words total)
   where
@@ -159,11 +160,6 @@ standing-walk ys g {s} {xs} S =
       counts = omega (arith, S.counts, t);
       most = omega (arith, t);
     }
-
--- one of no reason
-pub standing-none : (words : List ℕ) (total : ℕ) → total ≤ 4294967295 → {s : Stretch} → s.first ≡ 0 → s.count ≡ 0 → Standing words s total []
-unfolding Stand
-standing-none words total m f c = record { stand = tt; since = omega (arith, f); before = omega (arith, f); counts = omega (arith, c); most = m }
 
 -- ---- the loop that notes xs once more: j of them are noted
 module _ {was : List ℕ} {t : Stretch} {total : ℕ} {xs : List Reason} (S : Standing was t total xs) where

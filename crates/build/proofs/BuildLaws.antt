@@ -32,8 +32,9 @@ use Rattle.build.specs.Push.{State, edge, push_edge, start, quiet, Left, Room}
 use Rattle.build.specs.Model.{Model, note_state, trip_state, note_in, trip_in, reach, linked, Buffers, lent, begun, top, among, Prepared, Built}
 use Rattle.build.specs.Again.{of_total}
 use Rattle.atoms.proofs.RowLaws.{length-rows}
+use Rattle.atoms.proofs.StandingLaws.{noted-length}
 use Rattle.build.proofs.InternLaws.{held_start, held_rows, held-length, held_on, held-intern, interned-grows}
-use Rattle.build.proofs.PushLaws.{left-same, left-trans, left-start, left-quiet, left-tripped, left-room, noted-length}
+use Rattle.build.proofs.PushLaws.{left-same, left-trans, left-start, left-quiet, left-tripped, left-room}
 use Rattle.atoms.proofs.WalkLaws.{On, done, stop, onward}
 
 -- ---- the larger of N and the bound

@@ -2,8 +2,8 @@
 --     left-same, left-trans, left_is     no step, two steps, the same state
 --     left-trips, left-stays, left-known, left-new   adding an edge
 --     left-words, left-log               the contract as plain equalities
-use Prim.Native.Nat.{ℕ, zero, suc, ◌+◌, ◌/◌, ◌<◌, ◌≤◌}
-use mathlib.Core.Bool.{Bool, true, false, cond, ◌&&◌}
+use Prim.Native.Nat.{ℕ, zero, suc, ◌+◌, ◌<◌, ◌≤◌}
+use mathlib.Core.Bool.{Bool, true, false, cond}
 use mathlib.Core.Path.{◌≡◌, refl, sym, ap, ◌∙◌}
 use mathlib.Core.List.{List, [], ◌∷◌, ◌++◌, map}
 use native.Mathlib.Omega.{arith}
@@ -15,11 +15,11 @@ use borrow.Author.Tests.{ltb-false}
 use Rattle.eval.specs.declared.edges.Edge.{Edge}
 use Rattle.eval.specs.Edges.{edge_of, edges_of, row_of, edge_in}
 use Rattle.eval.proofs.EdgeWalks.{edges-length}
-use Rattle.atoms.specs.declared.reasons.Reason.{Reason}
 use Rattle.build.specs.declared.tally.Tally.{Tally}
 use Rattle.build.specs.Push.{Step}
 use Rattle.atoms.proofs.ListWalks.{map-append}
-use Rattle.atoms.specs.Reasons.{logged, noted, counted, bound_tripped}
+use Rattle.atoms.proofs.StandingLaws.{noted-length}
+use Rattle.atoms.specs.Reasons.{noted, counted, bound_tripped}
 use Rattle.build.specs.Push.{State, added, push_edge, reached, quiet, start, stored, Room, Left}
 
 -- ---- lists
@@ -71,15 +71,6 @@ stored_more was count held es fs h k e =
     ∙ ap (sets was count) (map-append row_of (drop count es) (drop held fs))
     ∙ sets-append (map row_of (drop count es)) (map row_of (drop held fs)) was count
     ∙ ap (λ i. sets (sets was count (map row_of (drop count es))) i (map row_of (drop held fs))) m)
-
--- ---- the log
-pub noted-length : (log : List ℕ) (total : ℕ) (r : Reason) → length (noted log total r) ≡ length log
-unfolding noted
-noted-length log total r = go (ltb total 4294967295 && ltb total (length log / 3))
-  where
-    go : (b : Bool) → length (cond b (logged log total r) log) ≡ length log
-    go true = simp length-set
-    go false = refl
 
 -- ---- steps
 module _ {limit : ℕ} {was : List (List ℕ)} {log : List ℕ} {t : Tally} {now : List (List ℕ)} {log' : List ℕ} {r : Step} {s : State} (L : Left limit was log t now log' r s) where

@@ -99,7 +99,7 @@ fn store(deck: &Deck, memo: &mut [Walked], t: Tally, u: Tally, o: ConceptId, e: 
     };
 }
 
-// The same in any table.
+// The same in any table. That the total before fits 32 bits its type says; a caller's proof has to be told.
 pub fn remember(deck: &Deck, memo: &mut [Walked], t: Tally, u: Tally, o: ConceptId, e: Element)
     requires { t.reasons ≤ u.reasons }
     ensures kept { Kept memo.old memo.new t u o.0 e.0 }
