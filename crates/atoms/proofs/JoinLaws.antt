@@ -1,5 +1,5 @@
 -- A label that takes classes in does not mind repeats and order: `insert-same`. So a walk over marks joins what a walk in order does.
---     takes-operands, takes-next, takes-end     what a walk by marks still has to join
+--     takes-start, takes-next, takes-end        what a walk by marks still has to join
 use Prim.Native.Nat.{ℕ, zero, suc, ◌+◌, ◌/◌, ◌%◌, ◌^◌, ◌<◌}
 use mathlib.Core.Bool.{Bool, true, false, cond, ◌||◌}
 use mathlib.Core.Path.{◌≡◌, refl, sym, ap, ◌∙◌}

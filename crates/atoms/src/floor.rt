@@ -12,22 +12,24 @@ ghost use Rattle.atoms.specs.Leaves.{IsLeaf};
 ghost use Rattle.atoms.specs.Floor.{universal, atom_rows, member_rows, floor_of, floor_label, has_real, floored};
 
 use crate::labels;
-use crate::leaves::{Question, is_and};
+use crate::leaves::{Question, every_leaf, is_and, leaf_answer};
 use crate::lists::{member, operand};
 use crate::marks::Leaves;
-use crate::short::answer_soon;
 use crate::subsumers::insert_satisfiable;
 use deck::Deck;
 use deck::concepts::ConceptExpr;
 use deck::numbers::ConceptId;
 use deck::rows::Span;
 
-// Is the concept universal?
+// Is the concept universal? By the one walk from the concept's number downward, so that no operand list is read twice.
 pub fn is_universal_antecedent(deck: &Deck, concept: ConceptId) -> bool
     requires concept_bound { concept.0 < concept_count (content deck.now) }
     ensures { result ≡ universal (content deck.now) concept.0 }
 {
-    answer_soon(deck, &Question::Universal, concept)
+    if is_and(deck, concept) {
+        return every_leaf(deck, &Question::Universal, concept);
+    }
+    leaf_answer(deck, &Question::Universal, concept)
 }
 
 // The label takes the row of a concept that is a satisfiable atom in.

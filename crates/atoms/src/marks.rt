@@ -36,7 +36,7 @@ fn highest_mark(marks: &[u64], i: u32) -> Option<ConceptId>
 }
 
 // The operands of the list from the first on, all below `owner`, are marked.
-fn mark_operands(deck: &Deck, owner: ConceptId, list: Span, first: u32, marks: &mut [u64])
+pub fn mark_operands(deck: &Deck, owner: ConceptId, list: Span, first: u32, marks: &mut [u64])
     requires list_fits { ListFits deck.now.bytes.now owner.0 list }
     requires owner_in_bounds { owner.0 ≤ length marks.old * 64 }
     ensures { marks.new ≡ insert_all marks.old (drop first (list_of deck.now.bytes.now list)) }
@@ -47,7 +47,7 @@ fn mark_operands(deck: &Deck, owner: ConceptId, list: Span, first: u32, marks: &
 }
 
 // The highest concept below i that is no And, marked or reached from a marked one. An And on the way marks its operands: its list is read here and, the walk going down, not again.
-fn next_leaf(deck: &Deck, marks: &mut [u64], i: u32) -> Option<ConceptId>
+pub fn next_leaf(deck: &Deck, marks: &mut [u64], i: u32) -> Option<ConceptId>
     requires i_bound { i ≤ concept_count (content deck.now) }
     requires marks_len { length marks.old ≡ 256 }
     ensures { Next (content deck.now) marks.old i marks.new result }

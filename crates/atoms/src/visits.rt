@@ -80,6 +80,10 @@ fn size_of_and(deck: &Deck, sizes: &[u8], owner: ConceptId, list: Span) -> u8
     let mut size: u8 = 1;
     for i in 0..list.count {
         size = size.saturating_add(sizes[operand(deck, owner, list, i).0 as usize]);
+        // No more of the list is read than it takes to know.
+        if size == 255 {
+            return size;
+        }
     }
     size
 }

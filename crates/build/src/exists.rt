@@ -44,7 +44,9 @@ impl Build<'_, '_> {
             self.log,
             self.tally.reasons,
         );
-        self.reach(role, from, 0)
+        let (to, ended) = self.reach(role, from, 0);
+        ended?;
+        Ok(to)
     }
 
     // Every Some of the concept that an And or a Some leads to, from element e on. A turn goes down a Some, so only an And takes stack. The table has walks that were made before, and takes more of them in.

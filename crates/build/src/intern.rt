@@ -41,15 +41,29 @@ pub fn row(labels: &[u64], e: u32, n: u32, w: usize) -> &[u64]
     &labels[at..at + w]
 }
 
-// Whether two labels of one width differ in their word `last`, if there is one.
+// Whether two labels of one width differ in a word, from the first on. By a loop, which ends at that word: `==` looks at four at a time, and takes
+// up to 2.3 times as long where the first tells.
+fn differ(a: &[u64], b: &[u64]) -> bool
+    requires { length a.now ≡ length b.now }
+    ensures { result ≡ true → a.now ≡ b.now → ⊥ }
+{
+    for i in 0..a.len() {
+        if a[i] != b[i] {
+            return true;
+        }
+    }
+    false
+}
+
+// The same, word `last` looked at first, if there is one.
 fn differs(a: &[u64], b: &[u64], last: Option<usize>) -> bool
     requires same { length a.now ≡ length b.now }
     requires last { IfSome last (λ w. w < length b.now) }
     ensures { result ≡ true → a.now ≡ b.now → ⊥ }
 {
     match last {
-        Some(w) => a[w] != b[w],
-        None => false,
+        Some(w) if a[w] != b[w] => true,
+        _ => differ(a, b),
     }
 }
 
@@ -71,13 +85,14 @@ fn find(labels: &[u64], elements: u32, label: &[u64]) -> Option<Element>
     None
 }
 
-// The words from `at` on become the label.
-fn store(labels: &mut [u64], at: usize, label: &[u64])
+// The words from `at` on become the label. Word by word: a copy of the whole part would need `memmove` of whoever links the library.
+pub fn store(labels: &mut [u64], at: usize, label: &[u64])
     requires { at + length label.now ≤ length labels.old }
     ensures { labels.new ≡ paste labels.old at label.now (length label.now) }
 {
-    let end = at + label.len();
-    labels[at..end].copy_from_slice(label);
+    for i in 0..label.len() {
+        labels[at + i] = label[i];
+    }
 }
 
 impl Build<'_, '_> {

@@ -1,5 +1,5 @@
 // A label is interned, and the edge to its element added: what both expansions do with a target.
-ghost use Rattle.std.specs.Prelude.{◌≡◌, is_err, IfOk};
+ghost use Rattle.std.specs.Prelude.{◌≡◌, is_err};
 ghost use Rattle.build.specs.Intern.{index_of};
 ghost use Rattle.build.specs.Push.{Tail, edge};
 ghost use Rattle.build.specs.Model as spec;
@@ -32,15 +32,19 @@ impl Build<'_, '_> {
         self.push_edge(Edge { role, from, to }, since)
     }
 
-    // The element of the label in the making, and the edge of the role to it.
-    pub fn reach(&mut self, role: RoleId, from: Element, since: u32) -> Result<Element, Tripped>
+    // The element of the label in the making, and the edge of the role to it. The element is handed back where a bound trips too.
+    pub fn reach(
+        &mut self,
+        role: RoleId,
+        from: Element,
+        since: u32,
+    ) -> (Element, Result<(), Tripped>)
         requires ready { Ready self.old }
         requires tail { Tail self.old.edges.now self.old.tally.edges since from.0 }
-        ensures holds { Holds self.old self.new (is_err result) (spec.reach self.old.plan.bounds role.0 from.0 (label_in self.old) (model_of self.old)) }
-        ensures place { IfOk result (λ e. e.0 ≡ index_of (model_of self.old).labels (label_in self.old)) }
+        ensures holds { Holds self.old self.new (is_err result.1) (spec.reach self.old.plan.bounds role.0 from.0 (label_in self.old) (model_of self.old)) }
+        ensures place { result.0.0 ≡ index_of (model_of self.old).labels (label_in self.old) }
     {
         let to = self.intern();
-        self.link(role, from, to, since)?;
-        Ok(to)
+        (to, self.link(role, from, to, since))
     }
 }

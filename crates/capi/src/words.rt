@@ -1,18 +1,12 @@
 // Answers as numbers and words.
 ghost use Rattle.std.specs.Prelude.{◌≡◌, ◌≤◌, length};
-ghost use Rattle.deck.specs.Refusal.{word_told};
 ghost use Rattle.capi.specs.Words.{told, given, deck_number, deck_word, judgement_words, judgement_told, verdict_told, outcome_number, summary_told};
 
 use build::tally::Tally;
-use deck::numbers::WordIndex;
-use deck::refusal::Refusal;
+use deck::refusal::{NO_WORD, Refusal, refusal_word};
 use eval::judgement::Judgement;
 use eval::verdict::Verdict;
 use model::outcome::Outcome;
-
-// Stands for the word of a refusal that has none, and of an accepted deck: no deck has so many words.
-// It stays a number, as C has no Option.
-const NO_WORD: u32 = 4294967295;
 
 pub fn deck_number(answer: Result<(), Refusal>) -> u32
     ensures { result ≡ deck_number answer }
@@ -23,21 +17,12 @@ pub fn deck_number(answer: Result<(), Refusal>) -> u32
     }
 }
 
-fn word_told(word: Option<WordIndex>) -> u32
-    ensures { result ≡ word_told word }
-{
-    match word {
-        Some(index) => index.0,
-        None => NO_WORD,
-    }
-}
-
 pub fn deck_word(answer: Result<(), Refusal>) -> u32
     ensures { result ≡ deck_word answer }
 {
     match answer {
         Ok(()) => NO_WORD,
-        Err(refusal) => word_told(refusal.word()),
+        Err(refusal) => refusal_word(refusal),
     }
 }
 

@@ -5,7 +5,7 @@ ghost use Rattle.std.specs.Prelude.{◌+◌, ◌<◌, ◌≤◌, length};
 pub const MOST: usize = 1000000;
 
 // The word whose lowest byte is byte `at`.
-fn four(bytes: &[u8], at: usize) -> u32
+pub fn four(bytes: &[u8], at: usize) -> u32
     requires { at + 3 < length bytes.now }
 {
     u32::from_le_bytes([bytes[at], bytes[at + 1], bytes[at + 2], bytes[at + 3]])

@@ -152,9 +152,32 @@ impl<'a> Draft<'a> {
         self.field_fits(concepts, kind, self.parts.part_word(p, k, f))
     }
 
-    // Whether the list whose start is field f, and its count the field after, lies within lists, its words of a kind.
+    // Whether a list, from a start, so many, lies within lists, its words of a kind.
     #[inline(never)]
+    fn list_fits(&self, start: u32, count: u32, concepts: usize, kind: Kind) -> bool
+        ensures { result ≡ row_shape self.now.parts.bytes.now start count (bound_of (counts_of self.now.parts.bytes.now) concepts kind) }
+    {
+        self.parts
+            .row_shape(start, count, self.bound(concepts, kind))
+    }
+
+    // Whether the list whose start is field f, and its count the field after, lies within lists, its words of a kind.
+    // Inlined, so that the two words are read where the part is known: a class took twice the instructions when they were read in the call.
+    #[inline(always)]
     fn list_at_fits(&self, p: usize, k: usize, f: usize, concepts: usize, kind: Kind) -> bool
+        requires p_bound { p < 6 }
+        requires k_bound { k < part_count self.now.parts.bytes.now p }
+        requires f_bound { f + 1 < width_of p }
+        ensures { result ≡ row_shape self.now.parts.bytes.now (part_word self.now.parts.bytes.now p k f) (part_word self.now.parts.bytes.now p k (f + 1)) (bound_of (counts_of self.now.parts.bytes.now) concepts kind) }
+    {
+        let start = self.parts.part_word(p, k, f);
+        let count = self.parts.part_word(p, k, f + 1);
+        self.list_fits(start, count, concepts, kind)
+    }
+
+    // The same, with the test of the words compiled where it is called: for the rows of classes, which are many and mostly short.
+    #[inline(always)]
+    fn row_at_fits(&self, p: usize, k: usize, f: usize, concepts: usize, kind: Kind) -> bool
         requires p_bound { p < 6 }
         requires k_bound { k < part_count self.now.parts.bytes.now p }
         requires f_bound { f + 1 < width_of p }
@@ -186,7 +209,7 @@ impl<'a> Draft<'a> {
             }
             Form::FieldList(a, e) => {
                 self.field_at_fits(p, k, f, concepts, a)
-                    && self.list_at_fits(p, k, f + 1, concepts, e)
+                    && self.row_at_fits(p, k, f + 1, concepts, e)
             }
             Form::Unknown => false,
         }

@@ -23,10 +23,10 @@ ghost use Rattle.deck.specs.Answer.{trailer_answer};
 ghost use Rattle.deck.specs.Records.{deck_answer};
 
 use crate::forms::Draft;
-use crate::parts::Parts;
 use crate::refusal::Refusal;
 use crate::trailer::Trailer;
 pub use accepted::Deck;
+pub use parts::Parts;
 
 // The tests 1 to 4, for a reader of an edition.
 fn check_trailer(deck: &[u8], edition: u32) -> Result<(), Refusal>

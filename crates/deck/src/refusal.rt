@@ -1,6 +1,6 @@
 // Why a deck, a run or a question is refused.
 ghost use Rattle.std.specs.Prelude.{◌≡◌};
-ghost use Rattle.deck.specs.Refusal.{number_of, fault_word};
+ghost use Rattle.deck.specs.Refusal.{number_of, fault_word, word_of};
 
 use crate::numbers::WordIndex;
 use std::error::Error;
@@ -59,6 +59,20 @@ impl Refusal {
             Refusal::FilledField(word) => Some(word),
             _ => None,
         }
+    }
+}
+
+// Stands for the word of a refusal that has none: no deck has so many words.
+// It stays a number, as C has no Option.
+pub const NO_WORD: u32 = 4294967295;
+
+// The word of a refusal, or NO_WORD.
+pub fn refusal_word(refusal: Refusal) -> u32
+    ensures { result ≡ word_of refusal }
+{
+    match refusal.word() {
+        Some(index) => index.0,
+        None => NO_WORD,
     }
 }
 

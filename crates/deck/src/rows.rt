@@ -23,6 +23,7 @@ impl Parts<'_> {
     // In these methods start and count stay two numbers, as sizes: a `Span` would be taken apart in each.
     // Whether each word of the row is below n. The pass goes to the row's end whatever it finds, so that
     // the compiler tests several words at once; the one of row_rises too.
+    #[inline(always)]
     fn row_below(&self, start: usize, count: usize, n: usize) -> bool
         requires { start + count ≤ part_count self.now.bytes.now 6 }
         ensures { result ≡ row_below self.now.bytes.now start count n }
@@ -40,6 +41,7 @@ impl Parts<'_> {
     }
 
     // Whether the row lies within lists, and each word of it is below n.
+    #[inline(always)]
     pub fn row_shape(&self, start: u32, count: u32, n: usize) -> bool
         ensures { result ≡ row_shape self.now.bytes.now start count n }
     {
@@ -66,7 +68,9 @@ impl Parts<'_> {
 
     // Whether a word of a row that rises is x. The halving stays by hand: for the library's search the bytes would first be seen as chunks of
     // four, and what it finds there be carried back to words by their place, which is longer than this loop.
-    pub fn find(&self, start: usize, count: usize, x: usize) -> bool
+    // By a number of 32 bits, as the words are: by a larger one, each step of a halving would compare twice.
+    #[inline(always)]
+    fn find_word(&self, start: usize, count: usize, x: u32) -> bool
         requires count_bound { start + count ≤ part_count self.now.bytes.now 6 }
         requires count_value { row_rises self.now.bytes.now start count ≡ true }
         ensures { result ≡ row_has self.now.bytes.now start count x }
@@ -75,7 +79,7 @@ impl Parts<'_> {
         let mut hi = count;
         while lo < hi {
             let mid = lo + (hi - lo) / 2;
-            let at = self.list_word(start + mid) as usize;
+            let at = self.list_word(start + mid);
             if at == x {
                 return true;
             }
@@ -86,6 +90,20 @@ impl Parts<'_> {
             }
         }
         false
+    }
+
+    // The same for any number.
+    #[inline(always)]
+    pub fn find(&self, start: usize, count: usize, x: usize) -> bool
+        requires count_bound { start + count ≤ part_count self.now.bytes.now 6 }
+        requires count_value { row_rises self.now.bytes.now start count ≡ true }
+        ensures { result ≡ row_has self.now.bytes.now start count x }
+    {
+        if x > 4294967295 {
+            words::are_bytes(self.bytes);
+            return false; // as no word is
+        }
+        self.find_word(start, count, x as u32)
     }
 }
 
@@ -120,6 +138,6 @@ impl Deck<'_> {
         ensures { result ≡ has (list_of self.now.bytes.now row) x }
     {
         self.parts()
-            .find(row.start as usize, row.count as usize, x as usize)
+            .find_word(row.start as usize, row.count as usize, x)
     }
 }

@@ -104,7 +104,7 @@ pub fresh-memo : (D : Deck) (S : Structure) (memo : List ℕ) → 0 < length mem
 unfolding word_for
 fresh-memo D S memo h z = record {
   room = h;
-  right = λ c e j l q p. let k : ℕ = key_of S.size c e in clash (cc (rw (z (k % length memo)) at p));
+  right = λ c e l q p. let k : ℕ = key_of S.size c e in absurd (omega (arith, p, z (k % length memo)));
 }
 
 module _ (D : Deck) (S : Structure) {memo : List ℕ} (R : Remembers D S memo) (c e : ℕ) (h : e < S.size) where
@@ -116,10 +116,14 @@ module _ (D : Deck) (S : Structure) {memo : List ℕ} (R : Remembers D S memo) (
   recalled-right r p j q = go (eqb (word_for memo k / 16) (k / length memo)) refl (sym q ∙ p)
     where
       go : (a : Bool) → eqb (word_for memo k / 16) (k / length memo) ≡ a → Some j ≡ cond a (judgement_of (word_for memo k % 16)) None → j ≡ judge D S c e
-      go true x z = R.right c e j h (eqb-true (word_for memo k / 16) (k / length memo) x) (sym z)
+      go true x z = coded (word_for memo k % 16) refl z
+        where
+          coded : (d : ℕ) → word_for memo k % 16 ≡ d → Some j ≡ judgement_of (word_for memo k % 16) → j ≡ judge D S c e
+          coded zero y u = clash (cc (rw y at u))
+          coded (suc d) y u = let w = R.right c e h (eqb-true (word_for memo k / 16) (k / length memo) x) (omega (arith, y)) in cc (u, w)
       go false x z = clash (cc)
 
-  module _ (d : ℕ) (fits : d < 16) (right : (j : Judgement) → judgement_of d ≡ Some j → j ≡ judge D S c e) where
+  module _ (d : ℕ) (fits : d < 16) (right : judgement_of d ≡ Some (judge D S c e)) where
     abbrev m : ℕ
     m = length memo
 
@@ -140,31 +144,30 @@ module _ (D : Deck) (S : Structure) {memo : List ℕ} (R : Remembers D S memo) (
     put_right : Remembers D S put
     put_right = record {
       room = rw put-size R.room;
-      right = λ a b j l q p. by_cases (key_of S.size a b % m) (k % m) (here a b j l q p) (else a b j l q p);
+      right = λ a b l q p. by_cases (key_of S.size a b % m) (k % m) (here a b l q) (else a b l q p);
     }
       where
-        here : (a b : ℕ) (j : Judgement) → b < S.size
+        here : (a b : ℕ) → b < S.size
             → word_for put (key_of S.size a b) / 16 ≡ key_of S.size a b / length put
-            → judgement_of (word_for put (key_of S.size a b) % 16) ≡ Some j
             → key_of S.size a b % m ≡ k % m
-            → j ≡ judge D S a b
-        here a b j l q p s =
+            → judgement_of (word_for put (key_of S.size a b) % 16) ≡ Some (judge D S a b)
+        here a b l q s =
             let x : ℕ = key_of S.size a b in
             let w = word-here x s in
             let whole : (k / m * 16 + d) / 16 ≡ k / m = digits_div (k / m) fits in
             let code : word_for put x % 16 ≡ d = ap (λ (y : ℕ). y % 16) w ∙ digits_mod (k / m) fits in
             let same = same_number m x k (sym (sym whole ∙ ap (λ (y : ℕ). y / 16) (sym w) ∙ q ∙ ap (λ (y : ℕ). x / y) put-size)) s in
-            right j (rw code at p) ∙ rw (key-concept S.size a b c e l h same, key-element S.size a b c e l h same)
+            ap judgement_of code ∙ right ∙ rw (key-concept S.size a b c e l h same, key-element S.size a b c e l h same)
 
-        else : (a b : ℕ) (j : Judgement) → b < S.size
+        else : (a b : ℕ) → b < S.size
             → word_for put (key_of S.size a b) / 16 ≡ key_of S.size a b / length put
-            → judgement_of (word_for put (key_of S.size a b) % 16) ≡ Some j
+            → 0 < word_for put (key_of S.size a b) % 16
             → (key_of S.size a b % m ≡ k % m → ⊥)
-            → j ≡ judge D S a b
-        else a b j l q p n =
+            → judgement_of (word_for put (key_of S.size a b) % 16) ≡ Some (judge D S a b)
+        else a b l q p n =
             let x : ℕ = key_of S.size a b in
             let w = word_else x n in
-            R.right a b j l (ap (λ (y : ℕ). y / 16) (sym w) ∙ q ∙ ap (λ (y : ℕ). x / y) put-size) (rw w at p)
+            ap (λ (y : ℕ). judgement_of (y % 16)) w ∙ R.right a b l (ap (λ (y : ℕ). y / 16) (sym w) ∙ q ∙ ap (λ (y : ℕ). x / y) put-size) (rw w at p)
 
     code-stored : Remembers D S (stored memo k d)
     unfolding stored
@@ -175,4 +178,4 @@ module _ (D : Deck) (S : Structure) {memo : List ℕ} (R : Remembers D S memo) (
         go false = R
 
   pub stored-right : (j : Judgement) → j ≡ judge D S c e → Remembers D S (stored memo k (code_of j))
-  stored-right j q = code-stored (code_of j) (code_fits j) (λ i p. let same : i ≡ j = cc (p, code_is j) in same ∙ q)
+  stored-right j q = code-stored (code_of j) (code_fits j) (code_is j ∙ ap (λ (i : Judgement). Some i) q)

@@ -40,10 +40,10 @@ recalled memo k = cond (eqb (word_for memo k / 16) (k / length memo)) (judgement
 unfoldable pub stored : List ℕ → ℕ → ℕ → List ℕ
 stored memo k d = cond (ltb (k / length memo) 4096) (set memo (k % length memo) (k / length memo * 16 + d)) memo
 
--- every judgement that the table has is right
+-- every judgement that the table has is right, and each code that it has is a judgement's
 pub record Remembers (D : Deck) (S : Structure) (memo : List ℕ) : Type 0 where
   pub room : 0 < length memo
-  pub right : (c e : ℕ) (j : Judgement) → e < S.size
+  pub right : (c e : ℕ) → e < S.size
       → word_for memo (key_of S.size c e) / 16 ≡ key_of S.size c e / length memo
-      → judgement_of (word_for memo (key_of S.size c e) % 16) ≡ Some j
-      → j ≡ judge D S c e
+      → 0 < word_for memo (key_of S.size c e) % 16
+      → judgement_of (word_for memo (key_of S.size c e) % 16) ≡ Some (judge D S c e)

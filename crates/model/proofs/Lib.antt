@@ -18,6 +18,7 @@ pub mod CursorLaws
 pub mod FactIndexLaws
 pub mod ApartLaws
 pub mod PassLaws
+pub mod HeldLaws
 pub mod RecallLaws
 pub mod AimLaws
 pub mod JudgingLaws

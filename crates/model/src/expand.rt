@@ -42,7 +42,8 @@ fn link_row(
     }
     let deck = b.plan.deck;
     load_row(&deck, k, b.label);
-    let to = b.reach(role, e, since)?;
+    let (to, ended) = b.reach(role, e, since);
+    ended?;
     known[k.0 as usize] = to.0 + 1;
     Ok(())
 }
@@ -208,17 +209,17 @@ fn expand_with<const N: usize, const K: usize>(b: &mut Build<'_, '_>) -> Result<
     index_facts(&plan.deck, &mut words);
     let mut mask: [u64; 64] = [0; 64];
     mark_facts(&plan.deck, &mut mask);
-    // One more than the element of each class's row, where that is remembered; 0 is none, as in a table of zeros, in fixed memory.
-    let mut known: [u32; K] = [0; K];
-    let elements = b.tally.elements;
-    let labels = &mut *b.labels;
-    let label = &mut *b.label;
-    recall_rows(&plan, labels, elements, label, &mut known);
     let facts = FactIndex {
         deck: plan.deck,
         words: &words,
         mask: &mask,
     };
+    // One more than the element of each class's row, where that is remembered; 0 is none, as in a table of zeros, in fixed memory.
+    let mut known: [u32; K] = [0; K];
+    let elements = b.tally.elements;
+    let labels = &mut *b.labels;
+    let label = &mut *b.label;
+    recall_rows(&plan, &facts, labels, elements, label, &mut known);
     turns(b, &mut known, &facts)
 }
 
