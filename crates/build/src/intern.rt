@@ -41,29 +41,30 @@ pub fn row(labels: &[u64], e: u32, n: u32, w: usize) -> &[u64]
     &labels[at..at + w]
 }
 
-// Whether two labels of one width differ in a word, from the first on. By a loop, which ends at that word: `==` looks at four at a time, and takes
-// up to 2.3 times as long where the first tells.
-fn differ(a: &[u64], b: &[u64]) -> bool
+// Whether two labels of one width differ in their first word, or in their last: so labels mostly differ from one without a class.
+fn ends_differ(a: &[u64], b: &[u64]) -> bool
     requires { length a.now ≡ length b.now }
     ensures { result ≡ true → a.now ≡ b.now → ⊥ }
 {
-    for i in 0..a.len() {
-        if a[i] != b[i] {
-            return true;
-        }
+    if a.is_empty() {
+        return false;
     }
-    false
+    let end = a.len() - 1;
+    if a[0] != b[0] {
+        return true;
+    }
+    a[end] != b[end]
 }
 
-// The same, word `last` looked at first, if there is one.
+// Whether two labels of one width differ in their word `last`, or where there is none at an end.
 fn differs(a: &[u64], b: &[u64], last: Option<usize>) -> bool
     requires same { length a.now ≡ length b.now }
     requires last { IfSome last (λ w. w < length b.now) }
     ensures { result ≡ true → a.now ≡ b.now → ⊥ }
 {
     match last {
-        Some(w) if a[w] != b[w] => true,
-        _ => differ(a, b),
+        Some(w) => a[w] != b[w],
+        None => ends_differ(a, b),
     }
 }
 
