@@ -112,7 +112,7 @@ impl Printed<'_> {
         }
     }
 
-    // Those of the facts that will be worked: of the classes that some element has. A `while`, from one class to the next.
+    // Those of the facts of the classes of a label. A `while`, from one class to the next.
     fn recall_targets(
         &self,
         facts: &FactIndex<'_>,
